@@ -1,0 +1,13 @@
+-- `encoder::offset_ok` meets its contract, from that of its call. Assumes nothing.
+use borrow.Author.Needs.{needs}
+use Rattle.encoder.proofs.offset_ok.Statement.{statement}
+use Rattle.encoder.proofs.offset_ok.Tie as tie
+
+signed-ok-requires : tie.Need-signed-ok-requires
+signed-ok-requires c κs = search needs
+
+returns : tie.Need-returns
+returns c = cc
+
+pub offset-ok-spec : {M : Type 1} → statement M
+offset-ok-spec = tie.close (tie.spec signed-ok-requires returns)

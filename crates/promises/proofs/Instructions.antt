@@ -1,0 +1,121 @@
+-- The promises of the instruction set: the round trips of the words, the sweep over the halfwords and the chart's rule, in the paper's numbers.
+-- Assumes nothing.
+use mathlib.Core.Path.{_≡_, refl, sym, ap, _∙_}
+use mathlib.Core.Bool.{Bool, true, false, cond}
+use Prim.Native.Nat.{ℕ, _%_, _^_, _≤_, _<_}
+use native.Mathlib.Omega.{arith}
+use borrow.Author.Tests.{lt-ltb, ltb-true}
+use lib.Dec.{T, ltb}
+use Rattle.word.proofs.Rows.{found}
+use Rattle.answers.specs.Answer.{Answer, given, refusedWith}
+use Rattle.isa.specs.declared.Inst.{Inst}
+use Rattle.isa.specs.declared.Reg.{Reg}
+use Rattle.isa.specs.declared.Named.{Named}
+use Rattle.isa.specs.declared.Named.the-variants as N
+use Rattle.isa.specs.declared.Decoded.{Decoded}
+use Rattle.isa.specs.declared.Decoded.the-variants.{Legal, Illegal}
+use Rattle.isa.specs.declared.Encoded.{Encoded}
+use Rattle.isa.specs.declared.Encoded.the-variants as E
+use Rattle.isa.specs.declared.Shortened.{Shortened}
+use Rattle.isa.specs.declared.Shortened.the-variants as S
+use Rattle.isa.specs.Registers.{reg, register}
+use Rattle.isa.specs.Operations.{partsOf}
+use Rattle.isa.specs.Decoding.{decoded, opcodes}
+use Rattle.isa.specs.Fields.{opcode}
+use Rattle.isa.specs.Encoding.{inRange, wordOf, encoded}
+use Rattle.isa.specs.Rvc.{expanded}
+use Rattle.isa.specs.Shortening.{smallest, stands, shortened}
+use Rattle.isa.specs.Answers.{ofNamed, ofDecoded, ofEncoded, ofShortened}
+use Rattle.shortest.specs.Trial.{tried}
+use Rattle.shortest.proofs.Shortest.{by-one, expanded-in-range, shortened-one, shortened-is, no-short-form, none-stands}
+use Rattle.roundtrip.proofs.Words as Words
+use Rattle.chart.proofs.Legal.{legal-charted}
+use Rattle.promises.specs.Instructions.{decodes, encodes, expands, shortens, Registers, DecodeRefuses, EncodeRefuses, ShortenRefuses, NoShortForm, OtherWidth, DecodeOfEncode, EncodeOfDecode, ExpansionEncodes, ExpandOfShorten, ShortenOfExpand, LegalCharted}
+use Rattle.promises.proofs.Readings.{legal-is, illegal-is, bits-is, out-is, half-is, eight-is, nine-is}
+
+-- ---- refusals
+
+pub registers : Registers
+registers n = (go (ltb n 32) refl, λ l. rw (lt-ltb n 32 l))
+  where
+    go : (b : Bool) → ltb n 32 ≡ b → ofNamed (cond b (N.Register (reg n)) N.OutOfRange) ≡ given (reg n) → n < 32
+    go true t e = ltb-true n 32 t
+    go false t e = let z : _≡_ {A = ℕ} 0 1 = cc in absurd (omega arith)
+
+pub decode-refuses : DecodeRefuses
+decode-refuses w l = (λ e i m. never i (illegal-is (decoded w) 7 e) (Words.decode-encoded i w (bits-is (encoded i) w m)), λ f. go f (decoded w) refl)
+  where
+    never : (i : Inst) → decoded w ≡ Illegal → decoded w ≡ Legal i → ⊥
+    never i p q = let z : _≡_ {A = ℕ} 0 1 = cc in omega arith
+
+    go : ((i : Inst) → encodes i ≡ given w → ⊥) → (d : Decoded) → decoded w ≡ d → ofDecoded d ≡ refusedWith 7
+    go f (Legal i) e = absurd (f i (ap ofEncoded (Words.encode-decode w i l e)))
+    go f Illegal e = refl
+
+pub encode-refuses : EncodeRefuses
+encode-refuses i = (λ e. go (inRange i) (out-is (encoded i) 8 e), λ e. rw e)
+  where
+    go : (b : Bool) → cond b (E.Bits (wordOf i)) E.OutOfRange ≡ E.OutOfRange → b ≡ false
+    go true e = let z : _≡_ {A = ℕ} 0 1 = cc in absurd (omega arith)
+    go false e = refl
+
+-- the shortener refuses with 8 first
+out-of-range : (a b : Bool) (h : ℕ) → cond a (cond b (S.Half h) S.NoShortForm) S.OutOfRange ≡ S.OutOfRange → a ≡ false
+out-of-range true true h e = let z : _≡_ {A = ℕ} 0 1 = cc in absurd (omega arith)
+out-of-range true false h e = let z : _≡_ {A = ℕ} 0 1 = cc in absurd (omega arith)
+out-of-range false b h e = refl
+
+in-range : (a b : Bool) (h : ℕ) → cond a (cond b (S.Half h) S.NoShortForm) S.OutOfRange ≡ S.NoShortForm → a ≡ true
+in-range true b h e = refl
+in-range false b h e = let z : _≡_ {A = ℕ} 0 1 = cc in absurd (omega arith)
+
+pub shorten-refuses : ShortenRefuses
+shorten-refuses i = (λ e. out-of-range (inRange i) (stands i (tried (partsOf i))) _ (sym (by-one i) ∙ eight-is (shortened i) e), λ e. rw e)
+
+pub no-short : NoShortForm
+no-short i = (
+  λ e. (in-range (inRange i) (stands i (tried (partsOf i))) _ (sym (by-one i) ∙ nine-is (shortened i) e), λ h l m. no-short-form i (nine-is (shortened i) e) h l (legal-is (expanded h) i m)),
+  λ p. ap ofShortened (none-stands i (p .0) (λ h l m. p .1 h l (ap ofDecoded m))),
+)
+
+-- every opcode's low two bits are 11
+not-long : (w : ℕ) → (w % 4 ≡ 3 → ⊥) → decoded w ≡ Illegal
+unfolding decoded
+not-long w f = found (λ d. d ≡ Illegal) Illegal refl (opcodes w) (opcode w) (λ m. m) (no 0b0110111 refl, (no 0b0010111 refl, (no 0b1101111 refl, (no 0b1100111 refl, (no 0b1100011 refl, (no 0b0000011 refl, (no 0b0100011 refl, (no 0b0010011 refl, (no 0b0110011 refl, (no 0b0001111 refl, (no 0b1110011 refl, tt)))))))))))
+  where
+    no : (k : ℕ) {d : Decoded} → k % 4 ≡ 3 → opcode w ≡ k → d ≡ Illegal
+    no k t e = absurd (f (omega arith))
+
+not-short : (h : ℕ) → h % 4 ≡ 3 → expanded h ≡ Illegal
+unfolding expanded
+not-short h e = rw e
+
+pub other-width : OtherWidth
+other-width = (λ w f. ap ofDecoded (not-long w f), λ h e. ap ofDecoded (not-short h e))
+
+-- ---- round trips
+
+pub decode-of-encode : DecodeOfEncode
+decode-of-encode i w e = ap ofDecoded (Words.decode-encoded i w (bits-is (encoded i) w e))
+
+pub encode-of-decode : EncodeOfDecode
+encode-of-decode w i l e = ap ofEncoded (Words.encode-decode w i l (legal-is (decoded w) i e))
+
+pub expansion-encodes : ExpansionEncodes
+expansion-encodes h i l e = (wordOf i, rw (expanded-in-range h i l (legal-is (expanded h) i e)))
+
+pub expand-of-shorten : ExpandOfShorten
+expand-of-shorten i h e =
+    let s = shortened-is i h (half-is (shortened i) h e) in
+    (s .halfword, ap ofDecoded (s .stands-for), λ k l m. s .smallest-one k l (legal-is (expanded k) i m))
+
+pub shorten-of-expand : ShortenOfExpand
+shorten-of-expand h i l e =
+    let m = legal-is (expanded h) i e in
+    let s = shortened-one i h l m in
+    (tried (partsOf i), ap ofShortened s, shortened-is i (tried (partsOf i)) s .smallest-one h l m)
+
+-- ---- the chart
+
+pub charted-legal : LegalCharted
+charted-legal w i e z = legal-charted w i (legal-is (decoded w) i e) z

@@ -1,0 +1,81 @@
+-- What is promised of decoder, encoder, expander, shortener and chart, in the paper's numbers. Each statement is proved in proofs/Instructions.antt.
+use mathlib.Core.Path.{_≡_}
+use mathlib.Core.Bool.{true, false}
+use mathlib.Core.Logic.{_↔_}
+use Prim.Native.Nat.{ℕ, _%_, _^_, _≤_, _<_}
+use Rattle.answers.specs.Answer.{Answer, given, refusedWith}
+use Rattle.isa.specs.declared.Inst.{Inst}
+use Rattle.isa.specs.declared.Reg.{Reg}
+use Rattle.isa.specs.Registers.{reg, register}
+use Rattle.isa.specs.Decoding.{decoded}
+use Rattle.isa.specs.Encoding.{inRange, encoded}
+use Rattle.isa.specs.Rvc.{expanded}
+use Rattle.isa.specs.Shortening.{shortened}
+use Rattle.isa.specs.Answers.{ofNamed, ofDecoded, ofEncoded, ofShortened}
+use Rattle.chart.specs.Chart.{charted}
+
+-- ---- the answers of the four functions, as their contracts give them
+
+abbrev pub decodes : ℕ → Answer Inst
+decodes w = ofDecoded (decoded w)
+
+abbrev pub encodes : Inst → Answer ℕ
+encodes i = ofEncoded (encoded i)
+
+abbrev pub expands : ℕ → Answer Inst
+expands h = ofDecoded (expanded h)
+
+abbrev pub shortens : Inst → Answer ℕ
+shortens i = ofShortened (shortened i)
+
+-- ---- refusals, each exactly if
+
+-- a register number is 0 to 31 and nothing else
+abbrev pub Registers : Type 0
+Registers = (n : ℕ) → (ofNamed (register n) ≡ given (reg n)) ↔ (n < 32)
+
+-- 7: no legal instruction in the given 32 bits, that is, no instruction is encoded so
+abbrev pub DecodeRefuses : Type 0
+DecodeRefuses = (w : ℕ) → w < 2 ^ 32 → (decodes w ≡ refusedWith 7) ↔ ((i : Inst) → encodes i ≡ given w → ⊥)
+
+-- 8: a field out of range, or an odd branch or jal offset (`inRange`)
+abbrev pub EncodeRefuses : Type 0
+EncodeRefuses = (i : Inst) → (encodes i ≡ refusedWith 8) ↔ (inRange i ≡ false)
+
+-- 8, then 9: no halfword stands for it
+abbrev pub ShortenRefuses : Type 0
+ShortenRefuses = (i : Inst) → (shortens i ≡ refusedWith 8) ↔ (inRange i ≡ false)
+
+abbrev pub NoShortForm : Type 0
+NoShortForm = (i : Inst) → (shortens i ≡ refusedWith 9) ↔ ((inRange i ≡ true) × ((h : ℕ) → h < 2 ^ 16 → expands h ≡ given i → ⊥))
+
+-- low two bits that belong to the other width give 7
+abbrev pub OtherWidth : Type 0
+OtherWidth = ((w : ℕ) → (w % 4 ≡ 3 → ⊥) → decodes w ≡ refusedWith 7) × ((h : ℕ) → h % 4 ≡ 3 → expands h ≡ refusedWith 7)
+
+-- ---- round trips
+
+-- for every legal 32-bit instruction decoding and encoding undo each other
+abbrev pub DecodeOfEncode : Type 0
+DecodeOfEncode = (i : Inst) (w : ℕ) → encodes i ≡ given w → decodes w ≡ given i
+
+abbrev pub EncodeOfDecode : Type 0
+EncodeOfDecode = (w : ℕ) (i : Inst) → w < 2 ^ 32 → decodes w ≡ given i → encodes i ≡ given w
+
+-- what a halfword stands for has a word
+abbrev pub ExpansionEncodes : Type 0
+ExpansionEncodes = (h : ℕ) (i : Inst) → h < 2 ^ 16 → expands h ≡ given i → (w : ℕ) × (encodes i ≡ given w)
+
+-- expanding what shortening gave is the instruction, and no smaller halfword stands for it
+abbrev pub ExpandOfShorten : Type 0
+ExpandOfShorten = (i : Inst) (h : ℕ) → shortens i ≡ given h → (h < 2 ^ 16) × (expands h ≡ given i) × ((k : ℕ) → k < 2 ^ 16 → expands k ≡ given i → h ≤ k)
+
+-- shortening what a halfword stands for gives a halfword, by the above the smallest with the same expansion
+abbrev pub ShortenOfExpand : Type 0
+ShortenOfExpand = (h : ℕ) (i : Inst) → h < 2 ^ 16 → expands h ≡ given i → (k : ℕ) × (shortens i ≡ given k) × (k ≤ h)
+
+-- ---- the chart
+
+-- a legal 32-bit instruction never has entry 0
+abbrev pub LegalCharted : Type 0
+LegalCharted = (w : ℕ) (i : Inst) → decodes w ≡ given i → charted w ≡ 0 → ⊥

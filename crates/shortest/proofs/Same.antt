@@ -1,0 +1,151 @@
+-- Instructions with the same parts are equal: each comes back from its parts. Assumes nothing.
+use mathlib.Core.Path.{_≡_, refl, sym, ap, _∙_}
+use mathlib.Core.Bool.{_&&_}
+use mathlib.Core.List.{List, [], _∷_}
+use Prim.Native.Nat.{ℕ}
+use lib.Dec.{T, eqb, eqb→eq}
+use Rattle.word.specs.Tables.{find}
+use Rattle.word.proofs.Bools.{and-left, and-right}
+use Rattle.isa.specs.declared.Inst.{Inst}
+use Rattle.isa.specs.declared.Inst.the-variants.{Lui, Auipc, Jal, Jalr, Branch, Load, Store, Imm, Shift, Arith, Fence, Ecall, Ebreak, MulDiv}
+use Rattle.isa.specs.declared.Cond.the-variants.{Beq, Bne, Blt, Bge, Bltu, Bgeu}
+use Rattle.isa.specs.declared.LoadOp.the-variants.{Lb, Lh, Lw, Lbu, Lhu}
+use Rattle.isa.specs.declared.StoreOp.the-variants.{Sb, Sh, Sw}
+use Rattle.isa.specs.declared.ImmOp.the-variants.{Addi, Slti, Sltiu, Xori, Ori, Andi}
+use Rattle.isa.specs.declared.ShiftOp.the-variants.{Slli, Srli, Srai}
+use Rattle.isa.specs.declared.ArithOp.the-variants.{Add, Sub, Sll, Slt, Sltu, Xor, Srl, Sra, Or, And}
+use Rattle.isa.specs.declared.MulDivOp.the-variants.{Mul, Mulh, Mulhsu, Mulhu, Div, Divu, Rem, Remu}
+use Rattle.isa.specs.declared.Parts.{Parts}
+use Rattle.isa.specs.Registers.{reg}
+use Rattle.isa.specs.Operations.{parts, partsOf}
+use Rattle.isa.specs.Shortening.{sameParts}
+
+abbrev operations : ℕ → ℕ → ℕ → ℕ → List (ℕ × Inst)
+operations d s t v =
+    (0, Lui (reg d) v)
+    ∷ (1, Auipc (reg d) v)
+    ∷ (2, Jal (reg d) v)
+    ∷ (3, Jalr (reg d) (reg s) v)
+    ∷ (4, Branch Beq (reg s) (reg t) v)
+    ∷ (5, Branch Bne (reg s) (reg t) v)
+    ∷ (6, Branch Blt (reg s) (reg t) v)
+    ∷ (7, Branch Bge (reg s) (reg t) v)
+    ∷ (8, Branch Bltu (reg s) (reg t) v)
+    ∷ (9, Branch Bgeu (reg s) (reg t) v)
+    ∷ (10, Load Lb (reg d) (reg s) v)
+    ∷ (11, Load Lh (reg d) (reg s) v)
+    ∷ (12, Load Lw (reg d) (reg s) v)
+    ∷ (13, Load Lbu (reg d) (reg s) v)
+    ∷ (14, Load Lhu (reg d) (reg s) v)
+    ∷ (15, Store Sb (reg s) (reg t) v)
+    ∷ (16, Store Sh (reg s) (reg t) v)
+    ∷ (17, Store Sw (reg s) (reg t) v)
+    ∷ (18, Imm Addi (reg d) (reg s) v)
+    ∷ (19, Imm Slti (reg d) (reg s) v)
+    ∷ (20, Imm Sltiu (reg d) (reg s) v)
+    ∷ (21, Imm Xori (reg d) (reg s) v)
+    ∷ (22, Imm Ori (reg d) (reg s) v)
+    ∷ (23, Imm Andi (reg d) (reg s) v)
+    ∷ (24, Shift Slli (reg d) (reg s) v)
+    ∷ (25, Shift Srli (reg d) (reg s) v)
+    ∷ (26, Shift Srai (reg d) (reg s) v)
+    ∷ (27, Arith Add (reg d) (reg s) (reg t))
+    ∷ (28, Arith Sub (reg d) (reg s) (reg t))
+    ∷ (29, Arith Sll (reg d) (reg s) (reg t))
+    ∷ (30, Arith Slt (reg d) (reg s) (reg t))
+    ∷ (31, Arith Sltu (reg d) (reg s) (reg t))
+    ∷ (32, Arith Xor (reg d) (reg s) (reg t))
+    ∷ (33, Arith Srl (reg d) (reg s) (reg t))
+    ∷ (34, Arith Sra (reg d) (reg s) (reg t))
+    ∷ (35, Arith Or (reg d) (reg s) (reg t))
+    ∷ (36, Arith And (reg d) (reg s) (reg t))
+    ∷ (37, Fence (reg d) (reg s) v)
+    ∷ (38, Ecall)
+    ∷ (39, Ebreak)
+    ∷ (40, MulDiv Mul (reg d) (reg s) (reg t))
+    ∷ (41, MulDiv Mulh (reg d) (reg s) (reg t))
+    ∷ (42, MulDiv Mulhsu (reg d) (reg s) (reg t))
+    ∷ (43, MulDiv Mulhu (reg d) (reg s) (reg t))
+    ∷ (44, MulDiv Div (reg d) (reg s) (reg t))
+    ∷ (45, MulDiv Divu (reg d) (reg s) (reg t))
+    ∷ (46, MulDiv Rem (reg d) (reg s) (reg t))
+    ∷ (47, MulDiv Remu (reg d) (reg s) (reg t))
+    ∷ []
+
+build : Parts → Inst
+build p = find Ecall (operations (p .rd) (p .rs1) (p .rs2) (p .imm)) (p .operation) (λ i. i)
+
+back : (i : Inst) → build (partsOf i) ≡ i
+unfolding build
+back (Lui d v) = refl
+back (Auipc d v) = refl
+back (Jal d v) = refl
+back (Jalr d s v) = refl
+back (Branch Beq s t v) = refl
+back (Branch Bne s t v) = refl
+back (Branch Blt s t v) = refl
+back (Branch Bge s t v) = refl
+back (Branch Bltu s t v) = refl
+back (Branch Bgeu s t v) = refl
+back (Load Lb d s v) = refl
+back (Load Lh d s v) = refl
+back (Load Lw d s v) = refl
+back (Load Lbu d s v) = refl
+back (Load Lhu d s v) = refl
+back (Store Sb s t v) = refl
+back (Store Sh s t v) = refl
+back (Store Sw s t v) = refl
+back (Imm Addi d s v) = refl
+back (Imm Slti d s v) = refl
+back (Imm Sltiu d s v) = refl
+back (Imm Xori d s v) = refl
+back (Imm Ori d s v) = refl
+back (Imm Andi d s v) = refl
+back (Shift Slli d s v) = refl
+back (Shift Srli d s v) = refl
+back (Shift Srai d s v) = refl
+back (Arith Add d s t) = refl
+back (Arith Sub d s t) = refl
+back (Arith Sll d s t) = refl
+back (Arith Slt d s t) = refl
+back (Arith Sltu d s t) = refl
+back (Arith Xor d s t) = refl
+back (Arith Srl d s t) = refl
+back (Arith Sra d s t) = refl
+back (Arith Or d s t) = refl
+back (Arith And d s t) = refl
+back (Fence d s v) = refl
+back Ecall = refl
+back Ebreak = refl
+back (MulDiv Mul d s t) = refl
+back (MulDiv Mulh d s t) = refl
+back (MulDiv Mulhsu d s t) = refl
+back (MulDiv Mulhu d s t) = refl
+back (MulDiv Div d s t) = refl
+back (MulDiv Divu d s t) = refl
+back (MulDiv Rem d s t) = refl
+back (MulDiv Remu d s t) = refl
+
+parts-same : (p q : Parts) → T (sameParts p q) → p ≡ q
+parts-same p q t =
+    let t5 = eqb (p .imm) (q .imm) in
+    let t4 = eqb (p .rs2) (q .rs2) && t5 in
+    let t3 = eqb (p .rs1) (q .rs1) && t4 in
+    let t2 = eqb (p .rd) (q .rd) && t3 in
+    let u2 = and-right (eqb (p .operation) (q .operation)) t2 t in
+    let u3 = and-right (eqb (p .rd) (q .rd)) t3 u2 in
+    let u4 = and-right (eqb (p .rs1) (q .rs1)) t4 u3 in
+    let u5 = and-right (eqb (p .rs2) (q .rs2)) t5 u4 in
+    parts-eq (eqb→eq _ _ (and-left (eqb (p .operation) (q .operation)) t2 t)) (eqb→eq _ _ (and-left (eqb (p .rd) (q .rd)) t3 u2))
+    (eqb→eq _ _ (and-left (eqb (p .rs1) (q .rs1)) t4 u3))
+    (eqb→eq _ _ (and-left (eqb (p .rs2) (q .rs2)) t5 u4))
+    (eqb→eq _ _ u5)
+  where
+    parts-eq : {a b c d e a' b' c' d' e' : ℕ} → a ≡ a' → b ≡ b' → c ≡ c' → d ≡ d' → e ≡ e' → parts a b c d e ≡ parts a' b' c' d' e'
+    parts-eq j k l m n = λ i. parts (j i) (k i) (l i) (m i) (n i)
+
+pub same-parts : (i j : Inst) → T (sameParts (partsOf i) (partsOf j)) → partsOf i ≡ partsOf j
+same-parts i j t = parts-same (partsOf i) (partsOf j) t
+
+pub same : (i j : Inst) → T (sameParts (partsOf i) (partsOf j)) → i ≡ j
+same i j t = sym (back i) ∙ ap build (same-parts i j t) ∙ back j

@@ -1,0 +1,1 @@
+// No code: which halfword to try for an instruction, and the theorem that no other need be tried.

@@ -1,0 +1,5 @@
+pub mod Signs
+pub mod Bools
+pub mod Scatter
+pub mod Sweep
+pub mod Rows

@@ -1,0 +1,37 @@
+-- Sign extension, over the width. Assumes nothing.
+use mathlib.Core.Path.{_≡_, refl, sym, ap, subst, _∙_}
+use mathlib.Core.Logic.{_⊎_, inl, inr}
+use Prim.Native.Nat.{ℕ, _+_, _-_, _*_, _/_, _%_, _^_, _<_, _≤_}
+use native.Mathlib.Nat.{le-of-lt, zero-mul, one-mul, zero-add, mul-assoc}
+use native.Mathlib.Omega.{arith}
+use lib.Pow.{pow-pos, pow-mono, pow-add, shr-lt, high-ones}
+use lib.Pow as Pow
+use Rattle.word.specs.Bits.{sext}
+
+-- 0xffff_ffff << k, on 32 bits: ones from bit k up
+pub ones-from : (k : ℕ) → k < 32 → (2 ^ 32 - 1) * 2 ^ k % 2 ^ 32 ≡ 2 ^ 32 - 2 ^ k
+ones-from k h =
+    let p : 1 ≤ 2 ^ k = pow-pos k in
+    let l : 2 ^ k ≤ 2 ^ 32 = pow-mono (le-of-lt h) in
+    let e : (2 ^ 32 - 1) * 2 ^ k ≡ (2 ^ k - 1) * 2 ^ 32 + (2 ^ 32 - 2 ^ k) = omega arith in
+    let s : 2 ^ 32 - 2 ^ k < 2 ^ 32 = omega arith in
+    ap (λ (x : ℕ). x % 2 ^ 32) e ∙ Pow.low (2 ^ k - 1) 32 s
+
+-- the sign bit is 0 or 1
+pub sign-lt : (k x : ℕ) → 1 ≤ k → x < 2 ^ k → x / 2 ^ (k - 1) < 2
+sign-lt k x p h =
+    let e : k ≡ 1 + (k - 1) = omega arith in
+    shr-lt 1 (k - 1) (subst (λ (n : ℕ). x < 2 ^ n) e h)
+
+pub sext-clear : (k x : ℕ) → x / 2 ^ (k - 1) ≡ 0 → sext k x ≡ x
+sext-clear k x z = rw (z, zero-mul, zero-add)
+
+pub sext-set : (k x : ℕ) → x / 2 ^ (k - 1) ≡ 1 → sext k x ≡ 2 ^ 32 - 2 ^ k + x
+sext-set k x z = rw (z, one-mul)
+
+-- what sign extension adds to x is a multiple of 2 ^ k
+pub sext-above : (k x : ℕ) → k ≤ 32 → sext k x ≡ x / 2 ^ (k - 1) * (2 ^ (32 - k) - 1) * 2 ^ k + x
+sext-above k x h =
+    let e : 32 ≡ 32 - k + k = omega arith in
+    let ones : 2 ^ 32 - 2 ^ k ≡ (2 ^ (32 - k) - 1) * 2 ^ k = ap (λ (n : ℕ). 2 ^ n - 2 ^ k) e ∙ high-ones (32 - k) k in
+    rw (ones, mul-assoc)
