@@ -4,6 +4,7 @@ use isa::Decoded;
 use isa::Inst;
 use isa::Parts;
 use isa::Shortened;
+use parts::parts_of;
 ghost use mathlib.Core.Path.{_≡_};
 ghost use mathlib.Core.Bool.{cond};
 ghost use Rattle.isa.specs.Operations.{partsOf};
@@ -197,20 +198,20 @@ fn means_it(meaning: Decoded, i: Inst) -> bool
     let Decoded::Legal(j) = meaning else {
         return false;
     };
-    same_parts(j.as_parts(), i.as_parts())
+    same_parts(parts_of(j), parts_of(i))
 }
 
 fn trial(p: Parts) -> u32
     ensures { λ r. ⌜ r ≡ tried p ⌝ }
 {
-    try_for(p.operation, p.rd as u32, p.rs1 as u32, p.rs2 as u32, p.imm)
+    try_for(p.operation, p.rd, p.rs1, p.rs2, p.imm)
 }
 
 // The smallest halfword that stands for an instruction in range: the one that is tried, or none.
 fn by_trial(i: Inst) -> Shortened
     ensures { λ r. ⌜ r ≡ cond (stands i (tried (partsOf i))) (Half (tried (partsOf i))) NoShortForm ⌝ }
 {
-    let half = trial(i.as_parts()) as u16;
+    let half = trial(parts_of(i)) as u16;
     if means_it(expander::expand(half), i) {
         Shortened::Half(half)
     } else {

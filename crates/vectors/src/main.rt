@@ -55,9 +55,9 @@ fn parse(l: &[u8; 40]) -> Line {
     let imm_low = pair(byte(l[35], l[36]), byte(l[37], l[38]));
     let parts = Parts {
         operation: byte(l[19], l[20]),
-        rd: byte(l[22], l[23]),
-        rs1: byte(l[25], l[26]),
-        rs2: byte(l[28], l[29]),
+        rd: wide(byte(l[22], l[23])),
+        rs1: wide(byte(l[25], l[26])),
+        rs2: wide(byte(l[28], l[29])),
         imm: imm_high << 16 | imm_low,
     };
     Line {
@@ -72,7 +72,7 @@ fn is_parts(meaning: Decoded, p: Parts) -> bool {
     let Decoded::Legal(i) = meaning else {
         return p.operation == ILLEGAL;
     };
-    let q = i.as_parts();
+    let q = parts::parts_of(i);
     (q.operation == p.operation)
         & (q.rd == p.rd)
         & (q.rs1 == p.rs1)

@@ -1,5 +1,4 @@
 -- `decode` meets its contract: a masked field is the manual's; an arm for each row of the table, and the last where there is none. Assumes nothing.
-use borrow.Author.Needs.{needs}
 use mathlib.Core.Path.{_≡_}
 use Prim.Native.Nat.{ℕ, _/_, _^_}
 use lib.Bits.{bitAnd, and-mask}
@@ -28,57 +27,6 @@ module _ (w : ℕ) where
 
   funct7-is : bitAnd (w / 2 ^ 25) 0x7f ≡ funct7 w
   funct7-is = and-mask (w / 2 ^ 25) 7
-
-field5-requires : tie.Need-field5-requires
-field5-requires c κs = search needs
-
-field5-requires-2 : tie.Need-field5-requires-2
-field5-requires-2 c κs = search needs
-
-field5-requires-3 : tie.Need-field5-requires-3
-field5-requires-3 c κs = search needs
-
-imm-j-requires : tie.Need-imm-j-requires
-imm-j-requires c κs = search needs
-
-imm-i-requires : tie.Need-imm-i-requires
-imm-i-requires c κs = search needs
-
-if-zero-requires : tie.Need-if-zero-requires
-if-zero-requires c κs = search needs
-
-imm-b-requires : tie.Need-imm-b-requires
-imm-b-requires c κs = search needs
-
-branch-requires : tie.Need-branch-requires
-branch-requires c κs = search needs
-
-imm-i-requires-2 : tie.Need-imm-i-requires-2
-imm-i-requires-2 c κs = search needs
-
-load-requires : tie.Need-load-requires
-load-requires c κs = search needs
-
-imm-s-requires : tie.Need-imm-s-requires
-imm-s-requires c κs = search needs
-
-store-requires : tie.Need-store-requires
-store-requires c κs = search needs
-
-imm-i-requires-3 : tie.Need-imm-i-requires-3
-imm-i-requires-3 c κs = search needs
-
-immediate-requires : tie.Need-immediate-requires
-immediate-requires c κs = search needs
-
-register-requires : tie.Need-register-requires
-register-requires c κs = search needs
-
-if-zero-requires-2 : tie.Need-if-zero-requires-2
-if-zero-requires-2 c κs = search needs
-
-system-requires : tie.Need-system-requires
-system-requires c κs = search needs
 
 returns : tie.Need-returns
 unfolding decoded
@@ -153,4 +101,4 @@ returns-12 c =
     rw (← opcode-is w) (none Illegal (opcodes w) _ (λ m. m) _ (c .match .rest))
 
 pub decode-spec : {M : Type 1} → statement M
-decode-spec = tie.close (tie.spec field5-requires field5-requires-2 field5-requires-3 imm-j-requires imm-i-requires if-zero-requires imm-b-requires branch-requires imm-i-requires-2 load-requires imm-s-requires store-requires imm-i-requires-3 immediate-requires register-requires if-zero-requires-2 system-requires returns returns-2 returns-3 returns-4 returns-5 returns-6 returns-7 returns-8 returns-9 returns-10 returns-11 returns-12)
+decode-spec = tie.close (tie.spec _ _ _ _ _ _ _ _ _ _ _ _ _ _ _ _ _ returns returns-2 returns-3 returns-4 returns-5 returns-6 returns-7 returns-8 returns-9 returns-10 returns-11 returns-12)

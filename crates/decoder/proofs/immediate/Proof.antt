@@ -1,16 +1,9 @@
 -- `immediate` meets its contract: an arm for each row of the table, and the last where there is none. Assumes nothing.
-use borrow.Author.Needs.{needs}
 use Rattle.word.proofs.Rows.{none}
 use Rattle.isa.specs.Decoding.{immediates}
 use Rattle.isa.specs.declared.Decoded.the-variants.{Illegal}
 use Rattle.decoder.proofs.immediate.Statement.{statement}
 use Rattle.decoder.proofs.immediate.Tie as tie
-
-if-zero-requires : tie.Need-if-zero-requires
-if-zero-requires c κs = search needs
-
-shift-right-requires : tie.Need-shift-right-requires
-shift-right-requires c κs = search needs
 
 returns : tie.Need-returns
 returns c = rw (c .match .keys1)
@@ -40,4 +33,4 @@ returns-9 : tie.Need-returns-9
 returns-9 c = none Illegal (immediates (c .before .args .funct7) (c .before .args .rd) (c .before .args .rs1) (c .before .args .amount) (c .before .args .imm)) _ (λ m. m) _ (c .match .rest)
 
 pub immediate-spec : {M : Type 1} → statement M
-immediate-spec = tie.close (tie.spec if-zero-requires shift-right-requires returns returns-2 returns-3 returns-4 returns-5 returns-6 returns-7 returns-8 returns-9)
+immediate-spec = tie.close (tie.spec _ _ returns returns-2 returns-3 returns-4 returns-5 returns-6 returns-7 returns-8 returns-9)

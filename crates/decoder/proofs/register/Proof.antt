@@ -1,19 +1,9 @@
 -- `register` meets its contract: an arm for each row of the table, and the last where there is none. Assumes nothing.
-use borrow.Author.Needs.{needs}
 use Rattle.word.proofs.Rows.{none}
 use Rattle.isa.specs.Decoding.{registers}
 use Rattle.isa.specs.declared.Decoded.the-variants.{Illegal}
 use Rattle.decoder.proofs.register.Statement.{statement}
 use Rattle.decoder.proofs.register.Tie as tie
-
-arith-requires : tie.Need-arith-requires
-arith-requires c κs = search needs
-
-other-arith-requires : tie.Need-other-arith-requires
-other-arith-requires c κs = search needs
-
-mul-div-requires : tie.Need-mul-div-requires
-mul-div-requires c κs = search needs
 
 returns : tie.Need-returns
 returns c = rw (c .before .match .keys1) (c .arith .ensures)
@@ -28,4 +18,4 @@ returns-4 : tie.Need-returns-4
 returns-4 c = none Illegal (registers (c .before .args .funct3) (c .before .args .rd) (c .before .args .rs1) (c .before .args .rs2)) _ (λ m. m) _ (c .match .rest)
 
 pub register-spec : {M : Type 1} → statement M
-register-spec = tie.close (tie.spec arith-requires other-arith-requires mul-div-requires returns returns-2 returns-3 returns-4)
+register-spec = tie.close (tie.spec _ _ _ returns returns-2 returns-3 returns-4)

@@ -4,108 +4,6 @@ use Rattle.isa.specs.Encoding.{inRange}
 use Rattle.encoder.proofs.in_range.Statement.{statement}
 use Rattle.encoder.proofs.in_range.Tie as tie
 
-enum-known-i : tie.Need-enum-known-i
-enum-known-i c = search needs
-
-reg-ok-requires : tie.Need-reg-ok-requires
-reg-ok-requires c κs = search needs
-
-enum-known-i-2 : tie.Need-enum-known-i-2
-enum-known-i-2 c = search needs
-
-reg-ok-requires-2 : tie.Need-reg-ok-requires-2
-reg-ok-requires-2 c κs = search needs
-
-enum-known-i-3 : tie.Need-enum-known-i-3
-enum-known-i-3 c = search needs
-
-reg-ok-requires-3 : tie.Need-reg-ok-requires-3
-reg-ok-requires-3 c κs = search needs
-
-offset-ok-requires : tie.Need-offset-ok-requires
-offset-ok-requires c κs = search needs
-
-enum-known-i-4 : tie.Need-enum-known-i-4
-enum-known-i-4 c = search needs
-
-signed-ok-requires : tie.Need-signed-ok-requires
-signed-ok-requires c κs = search needs
-
-regs-ok-requires : tie.Need-regs-ok-requires
-regs-ok-requires c κs = search needs
-
-enum-known-i-5 : tie.Need-enum-known-i-5
-enum-known-i-5 c = search needs
-
-offset-ok-requires-2 : tie.Need-offset-ok-requires-2
-offset-ok-requires-2 c κs = search needs
-
-regs-ok-requires-2 : tie.Need-regs-ok-requires-2
-regs-ok-requires-2 c κs = search needs
-
-enum-known-i-6 : tie.Need-enum-known-i-6
-enum-known-i-6 c = search needs
-
-signed-ok-requires-2 : tie.Need-signed-ok-requires-2
-signed-ok-requires-2 c κs = search needs
-
-regs-ok-requires-3 : tie.Need-regs-ok-requires-3
-regs-ok-requires-3 c κs = search needs
-
-enum-known-i-7 : tie.Need-enum-known-i-7
-enum-known-i-7 c = search needs
-
-signed-ok-requires-3 : tie.Need-signed-ok-requires-3
-signed-ok-requires-3 c κs = search needs
-
-regs-ok-requires-4 : tie.Need-regs-ok-requires-4
-regs-ok-requires-4 c κs = search needs
-
-enum-known-i-8 : tie.Need-enum-known-i-8
-enum-known-i-8 c = search needs
-
-signed-ok-requires-4 : tie.Need-signed-ok-requires-4
-signed-ok-requires-4 c κs = search needs
-
-regs-ok-requires-5 : tie.Need-regs-ok-requires-5
-regs-ok-requires-5 c κs = search needs
-
-enum-known-i-9 : tie.Need-enum-known-i-9
-enum-known-i-9 c = search needs
-
-regs-ok-requires-6 : tie.Need-regs-ok-requires-6
-regs-ok-requires-6 c κs = search needs
-
-enum-known-i-10 : tie.Need-enum-known-i-10
-enum-known-i-10 c = search needs
-
-reg-ok-requires-4 : tie.Need-reg-ok-requires-4
-reg-ok-requires-4 c κs = search needs
-
-regs-ok-requires-7 : tie.Need-regs-ok-requires-7
-regs-ok-requires-7 c κs = search needs
-
-enum-known-i-11 : tie.Need-enum-known-i-11
-enum-known-i-11 c = search needs
-
-regs-ok-requires-8 : tie.Need-regs-ok-requires-8
-regs-ok-requires-8 c κs = search needs
-
-enum-told : tie.Need-enum-told
-enum-told c = search needs
-
-enum-told-2 : tie.Need-enum-told-2
-enum-told-2 c = search needs
-
-enum-known-i-12 : tie.Need-enum-known-i-12
-enum-known-i-12 c = search needs
-
-reg-ok-requires-5 : tie.Need-reg-ok-requires-5
-reg-ok-requires-5 c κs = search needs
-
-regs-ok-requires-9 : tie.Need-regs-ok-requires-9
-regs-ok-requires-9 c κs = search needs
-
 returns : tie.Need-returns
 unfolding inRange
 returns c = rw (c .before .before .i .given .1, c .reg-ok .ensures)
@@ -166,40 +64,40 @@ pub in-range-spec : {M : Type 1} → statement M
 in-range-spec =
     tie.close
     (tie.spec
-    enum-known-i
-    reg-ok-requires
-    enum-known-i-2
-    reg-ok-requires-2
-    enum-known-i-3
-    reg-ok-requires-3
-    offset-ok-requires
-    enum-known-i-4
-    signed-ok-requires
-    regs-ok-requires
-    enum-known-i-5
-    offset-ok-requires-2
-    regs-ok-requires-2
-    enum-known-i-6
-    signed-ok-requires-2
-    regs-ok-requires-3
-    enum-known-i-7
-    signed-ok-requires-3
-    regs-ok-requires-4
-    enum-known-i-8
-    signed-ok-requires-4
-    regs-ok-requires-5
-    enum-known-i-9
-    regs-ok-requires-6
-    enum-known-i-10
-    reg-ok-requires-4
-    regs-ok-requires-7
-    enum-known-i-11
-    regs-ok-requires-8
-    enum-told
-    enum-told-2
-    enum-known-i-12
-    reg-ok-requires-5
-    regs-ok-requires-9
+    (λ c. search needs)
+    _
+    (λ c. search needs)
+    _
+    (λ c. search needs)
+    _
+    (λ c κs. search needs)
+    (λ c. search needs)
+    (λ c κs. search needs)
+    _
+    (λ c. search needs)
+    (λ c κs. search needs)
+    _
+    (λ c. search needs)
+    (λ c κs. search needs)
+    _
+    (λ c. search needs)
+    (λ c κs. search needs)
+    _
+    (λ c. search needs)
+    (λ c κs. search needs)
+    _
+    (λ c. search needs)
+    _
+    (λ c. search needs)
+    _
+    _
+    (λ c. search needs)
+    _
+    (λ c. search needs)
+    (λ c. search needs)
+    (λ c. search needs)
+    _
+    _
     returns
     returns-2
     returns-3

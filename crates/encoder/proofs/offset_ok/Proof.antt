@@ -3,11 +3,8 @@ use borrow.Author.Needs.{needs}
 use Rattle.encoder.proofs.offset_ok.Statement.{statement}
 use Rattle.encoder.proofs.offset_ok.Tie as tie
 
-signed-ok-requires : tie.Need-signed-ok-requires
-signed-ok-requires c κs = search needs
-
 returns : tie.Need-returns
 returns c = cc
 
 pub offset-ok-spec : {M : Type 1} → statement M
-offset-ok-spec = tie.close (tie.spec signed-ok-requires returns)
+offset-ok-spec = tie.close (tie.spec (λ c κs. search needs) returns)

@@ -1,15 +1,8 @@
 -- `encoder::word_b` meets its contract: each field is masked and shifted to its place, and no two places overlap. Assumes nothing.
-use borrow.Author.Needs.{needs}
 use Prim.Native.Nat.{_/_, _^_}
 use Rattle.word.proofs.Scatter.{gather, put, last}
 use Rattle.encoder.proofs.word_b.Statement.{statement}
 use Rattle.encoder.proofs.word_b.Tie as tie
-
-number-requires : tie.Need-number-requires
-number-requires c κs = search needs
-
-number-requires-2 : tie.Need-number-requires-2
-number-requires-2 c κs = search needs
 
 returns : tie.Need-returns
 returns c =
@@ -22,4 +15,4 @@ returns c =
     (gather (imm / 2 ^ 12) 1 31 (put (imm / 2 ^ 5) 6 25 (put t 5 20 (put s 5 15 (put f3 3 12 (put (imm / 2 ^ 1) 4 8 (put (imm / 2 ^ 11) 1 7 (last op 7))))))) tt)
 
 pub word-b-spec : {M : Type 1} → statement M
-word-b-spec = tie.close (tie.spec number-requires number-requires-2 returns)
+word-b-spec = tie.close (tie.spec _ _ returns)

@@ -1,14 +1,7 @@
 -- `encoder::word_r` meets its contract: each field is masked and shifted to its place, and no two places overlap. Assumes nothing.
-use borrow.Author.Needs.{needs}
 use Rattle.word.proofs.Scatter.{gather, put, last}
 use Rattle.encoder.proofs.word_r.Statement.{statement}
 use Rattle.encoder.proofs.word_r.Tie as tie
-
-number-requires : tie.Need-number-requires
-number-requires c κs = search needs
-
-number-requires-2 : tie.Need-number-requires-2
-number-requires-2 c κs = search needs
 
 returns : tie.Need-returns
 returns c =
@@ -22,4 +15,4 @@ returns c =
     (gather f7 7 25 (put t 5 20 (put s 5 15 (put f3 3 12 (put d 5 7 (last op 7))))) tt)
 
 pub word-r-spec : {M : Type 1} → statement M
-word-r-spec = tie.close (tie.spec number-requires number-requires-2 returns)
+word-r-spec = tie.close (tie.spec _ _ returns)

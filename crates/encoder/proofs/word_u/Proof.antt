@@ -1,11 +1,7 @@
 -- `encoder::word_u` meets its contract: each field is masked and shifted to its place, and no two places overlap. Assumes nothing.
-use borrow.Author.Needs.{needs}
 use Rattle.word.proofs.Scatter.{gather, put, last}
 use Rattle.encoder.proofs.word_u.Statement.{statement}
 use Rattle.encoder.proofs.word_u.Tie as tie
-
-number-requires : tie.Need-number-requires
-number-requires c κs = search needs
 
 returns : tie.Need-returns
 returns c =
@@ -16,4 +12,4 @@ returns c =
     (gather field 20 12 (put d 5 7 (last op 7)) tt)
 
 pub word-u-spec : {M : Type 1} → statement M
-word-u-spec = tie.close (tie.spec number-requires returns)
+word-u-spec = tie.close (tie.spec _ returns)

@@ -3,28 +3,15 @@ use mathlib.Core.Path.{_≡_, ap, _∙_}
 use Rattle.isa.specs.Operations.{partsOf}
 use Rattle.shortest.specs.Trial.{tried}
 use Rattle.shortest.proofs.Half.{half}
-use borrow.Author.Needs.{needs}
 use Rattle.shortener.proofs.by_trial.Statement.{statement}
 use Rattle.shortener.proofs.by_trial.Tie as tie
-
-as-parts-requires : tie.Need-as-parts-requires
-as-parts-requires c κs = search needs
-
-trial-requires : tie.Need-trial-requires
-trial-requires c κs = search needs
 
 cast-half : tie.Need-cast-half
 cast-half c = record { fits = rw (c .trial .ensures) (half _ _ _ _ _) }
 
-expand-requires : tie.Need-expand-requires
-expand-requires c κs = search needs
-
-means-it-requires : tie.Need-means-it-requires
-means-it-requires c κs = search needs
-
 -- what was tried, and that the test is whether it stands for the instruction
 tried-is : (c : tie.After-means-it) → c .before .before .trial .result ≡ tried (partsOf (c .before .before .before .before .args .i))
-tried-is c = c .before .before .trial .ensures ∙ ap tried (c .before .before .before .as-parts .ensures)
+tried-is c = c .before .before .trial .ensures ∙ ap tried (c .before .before .before .parts-of .ensures)
 
 returns : tie.Need-returns
 returns c =
@@ -38,10 +25,10 @@ pub by-trial-spec : {M : Type 1} → statement M
 by-trial-spec =
     tie.close
     (tie.spec
-    as-parts-requires
-    trial-requires
+    _
+    _
     cast-half
-    expand-requires
-    means-it-requires
+    _
+    _
     returns
     returns-2)

@@ -2,84 +2,8 @@
 use mathlib.Core.Path.{ap}
 use Rattle.word.proofs.Rows.{none}
 use Rattle.shortest.specs.Trial.{tries, tryNone, tryFor}
-use borrow.Author.Needs.{needs}
 use Rattle.shortener.proofs.try_for.Statement.{statement}
 use Rattle.shortener.proofs.try_for.Tie as tie
-
-form-ci-requires : tie.Need-form-ci-requires
-form-ci-requires c κs = search needs
-
-pick-requires : tie.Need-pick-requires
-pick-requires c κs = search needs
-
-form-cj-requires : tie.Need-form-cj-requires
-form-cj-requires c κs = search needs
-
-pick-requires-2 : tie.Need-pick-requires-2
-pick-requires-2 c κs = search needs
-
-form-cr-requires : tie.Need-form-cr-requires
-form-cr-requires c κs = search needs
-
-form-cb-requires : tie.Need-form-cb-requires
-form-cb-requires c κs = search needs
-
-form-cb-requires-2 : tie.Need-form-cb-requires-2
-form-cb-requires-2 c κs = search needs
-
-form-lwsp-requires : tie.Need-form-lwsp-requires
-form-lwsp-requires c κs = search needs
-
-form-cl-requires : tie.Need-form-cl-requires
-form-cl-requires c κs = search needs
-
-pick-requires-3 : tie.Need-pick-requires-3
-pick-requires-3 c κs = search needs
-
-form-css-requires : tie.Need-form-css-requires
-form-css-requires c κs = search needs
-
-form-cl-requires-2 : tie.Need-form-cl-requires-2
-form-cl-requires-2 c κs = search needs
-
-pick-requires-4 : tie.Need-pick-requires-4
-pick-requires-4 c κs = search needs
-
-try-addi-requires : tie.Need-try-addi-requires
-try-addi-requires c κs = search needs
-
-form-cbi-requires : tie.Need-form-cbi-requires
-form-cbi-requires c κs = search needs
-
-form-ci-requires-2 : tie.Need-form-ci-requires-2
-form-ci-requires-2 c κs = search needs
-
-form-cbi-requires-2 : tie.Need-form-cbi-requires-2
-form-cbi-requires-2 c κs = search needs
-
-form-cbi-requires-3 : tie.Need-form-cbi-requires-3
-form-cbi-requires-3 c κs = search needs
-
-pick-requires-5 : tie.Need-pick-requires-5
-pick-requires-5 c κs = search needs
-
-form-cr-requires-2 : tie.Need-form-cr-requires-2
-form-cr-requires-2 c κs = search needs
-
-form-ca-requires : tie.Need-form-ca-requires
-form-ca-requires c κs = search needs
-
-form-ca-requires-2 : tie.Need-form-ca-requires-2
-form-ca-requires-2 c κs = search needs
-
-form-ca-requires-3 : tie.Need-form-ca-requires-3
-form-ca-requires-3 c κs = search needs
-
-form-ca-requires-4 : tie.Need-form-ca-requires-4
-form-ca-requires-4 c κs = search needs
-
-form-cr-requires-3 : tie.Need-form-cr-requires-3
-form-cr-requires-3 c κs = search needs
 
 returns : tie.Need-returns
 unfolding tryFor
@@ -161,31 +85,31 @@ pub try-for-spec : {M : Type 1} → statement M
 try-for-spec =
     tie.close
     (tie.spec
-    form-ci-requires
-    pick-requires
-    form-cj-requires
-    pick-requires-2
-    form-cr-requires
-    form-cb-requires
-    form-cb-requires-2
-    form-lwsp-requires
-    form-cl-requires
-    pick-requires-3
-    form-css-requires
-    form-cl-requires-2
-    pick-requires-4
-    try-addi-requires
-    form-cbi-requires
-    form-ci-requires-2
-    form-cbi-requires-2
-    form-cbi-requires-3
-    pick-requires-5
-    form-cr-requires-2
-    form-ca-requires
-    form-ca-requires-2
-    form-ca-requires-3
-    form-ca-requires-4
-    form-cr-requires-3
+    _
+    _
+    _
+    _
+    _
+    _
+    _
+    _
+    _
+    _
+    _
+    _
+    _
+    _
+    _
+    _
+    _
+    _
+    _
+    _
+    _
+    _
+    _
+    _
+    _
     returns
     returns-2
     returns-3

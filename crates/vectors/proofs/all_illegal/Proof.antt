@@ -13,9 +13,6 @@ abbrev μ-loop : tie.MeasureT-loop
 loop-holds : tie.Need-loop-holds Inv-loop μ-loop
 loop-holds c = search needs
 
-is-illegal-requires : tie.Need-is-illegal-requires Inv-loop μ-loop
-is-illegal-requires c κs = search needs
-
 returns : tie.Need-returns Inv-loop μ-loop
 returns c = search needs
 
@@ -38,7 +35,7 @@ all-illegal-spec =
     Inv-loop
     μ-loop
     loop-holds
-    is-illegal-requires
+    _
     returns
     add-half
     loop-less

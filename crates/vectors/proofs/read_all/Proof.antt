@@ -12,9 +12,6 @@ abbrev μ-loop : tie.MeasureT-loop
 loop-holds : tie.Need-loop-holds Inv-loop μ-loop
 loop-holds c = search needs
 
-read-one-requires : tie.Need-read-one-requires Inv-loop μ-loop
-read-one-requires c κs = search needs
-
 sub-turns : tie.Need-sub-turns Inv-loop μ-loop
 sub-turns c = search needs
 
@@ -37,7 +34,7 @@ read-all-spec =
     Inv-loop
     μ-loop
     loop-holds
-    read-one-requires
+    _
     sub-turns
     loop-less
     loop-again

@@ -1,0 +1,9 @@
+-- `c_mv` meets its contract, by what its callees ensure. Assumes nothing.
+use Rattle.expander.proofs.c_mv.Statement.{statement}
+use Rattle.expander.proofs.c_mv.Tie as tie
+
+returns : tie.Need-returns
+returns c = cc
+
+pub c-mv-spec : {M : Type 1} → statement M
+c-mv-spec = tie.close (tie.spec _ _ returns)
