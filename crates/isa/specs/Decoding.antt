@@ -12,7 +12,6 @@ use Rattle.isa.specs.declared.LoadOp.{LoadOp}
 use Rattle.isa.specs.declared.LoadOp.the-variants.{Lb, Lh, Lw, Lbu, Lhu}
 use Rattle.isa.specs.declared.StoreOp.{StoreOp}
 use Rattle.isa.specs.declared.StoreOp.the-variants.{Sb, Sh, Sw}
-use Rattle.isa.specs.declared.ImmOp.{ImmOp}
 use Rattle.isa.specs.declared.ImmOp.the-variants.{Addi, Slti, Sltiu, Xori, Ori, Andi}
 use Rattle.isa.specs.declared.ShiftOp.{ShiftOp}
 use Rattle.isa.specs.declared.ShiftOp.the-variants.{Slli, Srli, Srai}

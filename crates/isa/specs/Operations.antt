@@ -1,6 +1,5 @@
 -- The 48 operations in the paper's order, numbered from 0, and an instruction as numbers.
 use Prim.Native.Nat.{ℕ}
-use Rattle.isa.specs.declared.Reg.{Reg}
 use Rattle.isa.specs.declared.Inst.{Inst}
 use Rattle.isa.specs.declared.Inst.the-variants.{Lui, Auipc, Jal, Jalr, Branch, Load, Store, Imm, Shift, Arith, Fence, Ecall, Ebreak, MulDiv}
 use Rattle.isa.specs.declared.Cond.{Cond}

@@ -1,6 +1,5 @@
 -- The cards hold, by computation; a shortening is computed by the halfword to try. Assumes nothing.
-use mathlib.Core.Path.{_≡_, refl, ap, _∙_}
-use Rattle.isa.specs.declared.Inst.{Inst}
+use mathlib.Core.Path.{refl, ap}
 use Rattle.isa.specs.declared.Inst.the-variants.{Imm}
 use Rattle.isa.specs.declared.ImmOp.the-variants.{Addi}
 use Rattle.isa.specs.Registers.{sp}

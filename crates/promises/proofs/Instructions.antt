@@ -2,36 +2,32 @@
 -- Assumes nothing.
 use mathlib.Core.Path.{_≡_, refl, sym, ap, _∙_}
 use mathlib.Core.Bool.{Bool, true, false, cond}
-use Prim.Native.Nat.{ℕ, _%_, _^_, _≤_, _<_}
+use Prim.Native.Nat.{ℕ, _%_, _<_}
 use native.Mathlib.Omega.{arith}
 use borrow.Author.Tests.{lt-ltb, ltb-true}
-use lib.Dec.{T, ltb}
+use lib.Dec.{ltb}
 use Rattle.word.proofs.Rows.{found}
-use Rattle.answers.specs.Answer.{Answer, given, refusedWith}
+use Rattle.answers.specs.Answer.{given, refusedWith}
 use Rattle.isa.specs.declared.Inst.{Inst}
-use Rattle.isa.specs.declared.Reg.{Reg}
-use Rattle.isa.specs.declared.Named.{Named}
 use Rattle.isa.specs.declared.Named.the-variants as N
 use Rattle.isa.specs.declared.Decoded.{Decoded}
 use Rattle.isa.specs.declared.Decoded.the-variants.{Legal, Illegal}
-use Rattle.isa.specs.declared.Encoded.{Encoded}
 use Rattle.isa.specs.declared.Encoded.the-variants as E
-use Rattle.isa.specs.declared.Shortened.{Shortened}
 use Rattle.isa.specs.declared.Shortened.the-variants as S
-use Rattle.isa.specs.Registers.{reg, register}
+use Rattle.isa.specs.Registers.{reg}
 use Rattle.isa.specs.Operations.{partsOf}
 use Rattle.isa.specs.Decoding.{decoded, opcodes}
 use Rattle.isa.specs.Fields.{opcode}
 use Rattle.isa.specs.Encoding.{inRange, wordOf, encoded}
 use Rattle.isa.specs.Rvc.{expanded}
-use Rattle.isa.specs.Shortening.{smallest, stands, shortened}
+use Rattle.isa.specs.Shortening.{stands, shortened}
 use Rattle.isa.specs.Answers.{ofNamed, ofDecoded, ofEncoded, ofShortened}
 use Rattle.shortest.specs.Trial.{tried}
 use Rattle.shortest.proofs.Shortest.{by-one, expanded-in-range, shortened-one, shortened-is, no-short-form, none-stands}
 use Rattle.roundtrip.proofs.Words as Words
 use Rattle.chart.proofs.Legal.{legal-charted}
-use Rattle.promises.specs.Instructions.{decodes, encodes, expands, shortens, Registers, DecodeRefuses, EncodeRefuses, ShortenRefuses, NoShortForm, OtherWidth, DecodeOfEncode, EncodeOfDecode, ExpansionEncodes, ExpandOfShorten, ShortenOfExpand, LegalCharted}
-use Rattle.promises.proofs.Readings.{legal-is, illegal-is, bits-is, out-is, half-is, eight-is, nine-is}
+use Rattle.promises.specs.Instructions.{encodes, expands, Registers, DecodeRefuses, ExpandRefuses, EncodeRefuses, ShortenRefuses, NoShortForm, OtherWidth, DecodeOfEncode, EncodeOfDecode, ExpansionEncodes, ExpandOfShorten, ShortenOfExpand, LegalCharted}
+use Rattle.promises.proofs.Readings.{apart, legal-is, illegal-is, bits-is, out-is, half-is, eight-is, nine-is}
 
 -- ---- refusals
 
@@ -50,6 +46,13 @@ decode-refuses w l = (λ e i m. never i (illegal-is (decoded w) 7 e) (Words.deco
 
     go : ((i : Inst) → encodes i ≡ given w → ⊥) → (d : Decoded) → decoded w ≡ d → ofDecoded d ≡ refusedWith 7
     go f (Legal i) e = absurd (f i (ap ofEncoded (Words.encode-decode w i l e)))
+    go f Illegal e = refl
+
+pub expand-refuses : ExpandRefuses
+expand-refuses h = (λ e i m. apart (sym m ∙ e), λ f. go f (expanded h) refl)
+  where
+    go : ((i : Inst) → expands h ≡ given i → ⊥) → (d : Decoded) → expanded h ≡ d → ofDecoded d ≡ refusedWith 7
+    go f (Legal i) e = absurd (f i (ap ofDecoded e))
     go f Illegal e = refl
 
 pub encode-refuses : EncodeRefuses

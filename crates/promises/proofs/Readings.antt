@@ -1,5 +1,5 @@
 -- From an answer in the paper's terms back to the code's. Assumes nothing.
-use mathlib.Core.Path.{_≡_, refl, sym, ap, _∙_}
+use mathlib.Core.Path.{_≡_, refl, sym, ap}
 use Prim.Native.Nat.{ℕ}
 use native.Mathlib.Omega.{arith}
 use Rattle.answers.specs.Answer.{Answer, given, refusedWith}
@@ -13,7 +13,7 @@ use Rattle.isa.specs.declared.Shortened.the-variants as S
 use Rattle.isa.specs.Answers.{ofDecoded, ofEncoded, ofShortened}
 
 -- two answers that are told apart
-apart : {A : Type 0} {a : A} {n : ℕ} → given a ≡ refusedWith n → ⊥
+pub apart : {A : Type 0} {a : A} {n : ℕ} → given a ≡ refusedWith n → ⊥
 apart e = let z : _≡_ {A = ℕ} 0 1 = cc in omega arith
 
 number : {A : Type 0} {m n : ℕ} → _≡_ {A = Answer A} (refusedWith m) (refusedWith n) → m ≡ n

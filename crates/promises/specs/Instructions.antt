@@ -5,7 +5,6 @@ use mathlib.Core.Logic.{_↔_}
 use Prim.Native.Nat.{ℕ, _%_, _^_, _≤_, _<_}
 use Rattle.answers.specs.Answer.{Answer, given, refusedWith}
 use Rattle.isa.specs.declared.Inst.{Inst}
-use Rattle.isa.specs.declared.Reg.{Reg}
 use Rattle.isa.specs.Registers.{reg, register}
 use Rattle.isa.specs.Decoding.{decoded}
 use Rattle.isa.specs.Encoding.{inRange, encoded}
@@ -37,6 +36,10 @@ Registers = (n : ℕ) → (ofNamed (register n) ≡ given (reg n)) ↔ (n < 32)
 -- 7: no legal instruction in the given 32 bits, that is, no instruction is encoded so
 abbrev pub DecodeRefuses : Type 0
 DecodeRefuses = (w : ℕ) → w < 2 ^ 32 → (decodes w ≡ refusedWith 7) ↔ ((i : Inst) → encodes i ≡ given w → ⊥)
+
+-- 7: the given 16 bits stand for no instruction
+abbrev pub ExpandRefuses : Type 0
+ExpandRefuses = (h : ℕ) → (expands h ≡ refusedWith 7) ↔ ((i : Inst) → expands h ≡ given i → ⊥)
 
 -- 8: a field out of range, or an odd branch or jal offset (`inRange`)
 abbrev pub EncodeRefuses : Type 0

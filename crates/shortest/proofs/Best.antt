@@ -1,8 +1,8 @@
 -- Of each halfword's instruction, the halfword that is tried stands for it too and is no larger, and the instruction is in range:
 -- a test of each of the 65,536, which antt computes. Assumes nothing.
-use mathlib.Core.Path.{_≡_, refl, sym, ap, _∙_, subst, subst⁻¹}
-use mathlib.Core.Bool.{Bool, true, false, _&&_}
-use Prim.Native.Nat.{ℕ, zero, suc, _+_, _^_, _≤_, _<_, zero-le}
+use mathlib.Core.Path.{_≡_, subst}
+use mathlib.Core.Bool.{Bool, true, _&&_}
+use Prim.Native.Nat.{ℕ, _^_, _≤_, _<_, zero-le}
 use lib.Dec.{T, leb, leb→le}
 use Rattle.word.proofs.Bools.{and-left, and-right, and-both}
 use Rattle.word.proofs.Sweep.{every, at}

@@ -1,13 +1,12 @@
 -- The shortener's definition by one trial: the halfword that is tried stands for the instruction, and is then the smallest that does, or none does.
 -- Assumes nothing.
-use mathlib.Core.Path.{_≡_, refl, sym, ap, _∙_, subst, subst⁻¹}
+use mathlib.Core.Path.{_≡_, refl, sym, ap, _∙_, subst}
 use mathlib.Core.Bool.{Bool, true, false, cond}
 use Prim.Native.Nat.{ℕ, _^_, _≤_, _<_}
 use native.Mathlib.Omega.{arith}
 use lib.Dec.{T}
 use Rattle.word.proofs.Bools.{holds, is-true, is-false}
 use Rattle.isa.specs.declared.Inst.{Inst}
-use Rattle.isa.specs.declared.Parts.{Parts}
 use Rattle.isa.specs.declared.Decoded.{Decoded}
 use Rattle.isa.specs.declared.Decoded.the-variants.{Legal, Illegal}
 use Rattle.isa.specs.declared.Shortened.{Shortened}
@@ -15,9 +14,9 @@ use Rattle.isa.specs.declared.Shortened.the-variants.{Half, OutOfRange, NoShort
 use Rattle.isa.specs.Operations.{partsOf}
 use Rattle.isa.specs.Encoding.{inRange}
 use Rattle.isa.specs.Rvc.{expanded}
-use Rattle.isa.specs.Shortening.{sameParts, means, stands, smallest, shortened}
+use Rattle.isa.specs.Shortening.{means, stands, smallest, shortened}
 use Rattle.shortest.specs.Trial.{tried}
-use Rattle.shortest.proofs.Best.{Best, best-of}
+use Rattle.shortest.proofs.Best.{best-of}
 use Rattle.shortest.proofs.Smallest.{none, one}
 use Rattle.shortest.proofs.Same.{same}
 use Rattle.shortest.proofs.Half.{half}

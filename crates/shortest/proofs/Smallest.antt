@@ -1,12 +1,10 @@
 -- The smallest number below n that passes a test: what the definition gives. Assumes nothing.
-use mathlib.Core.Path.{_≡_, refl, sym, ap, _∙_, subst}
-use mathlib.Core.Bool.{Bool, true, false, cond}
-use mathlib.Core.Logic.{_⊎_, inl, inr}
-use Prim.Native.Nat.{ℕ, zero, suc, _≤_, _<_}
+use mathlib.Core.Path.{_≡_, refl}
+use mathlib.Core.Bool.{Bool, true, false}
+use Prim.Native.Nat.{ℕ, zero, suc, _<_}
 use native.Mathlib.Omega.{arith}
 use native.Mathlib.Decide.{decLt}
-use Rattle.isa.specs.declared.Shortened.{Shortened}
-use Rattle.isa.specs.declared.Shortened.the-variants.{Half, OutOfRange, NoShortForm}
+use Rattle.isa.specs.declared.Shortened.the-variants.{Half, NoShortForm}
 use Rattle.isa.specs.Shortening.{smallest}
 
 pub none : (p : ℕ → Bool) (n : ℕ) → ((k : ℕ) → k < n → p k ≡ false) → smallest p n ≡ NoShortForm

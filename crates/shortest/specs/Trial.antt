@@ -6,9 +6,7 @@ use mathlib.Core.Bool.{cond}
 use mathlib.Core.List.{List, [], _∷_}
 use lib.Dec.{eqb, ltb}
 use Rattle.word.specs.Tables.{find}
-use Rattle.isa.specs.declared.Inst.{Inst}
 use Rattle.isa.specs.declared.Parts.{Parts}
-use Rattle.isa.specs.Operations.{partsOf}
 use Rattle.shortest.specs.Formats.{formCr, formCi, form16sp, formLwsp, formCss, formCiw, formCl, formCa, formCb, formCbi, formCj}
 
 -- C.ADDI where rd is rs1 and the immediate has 6 bits, since it is the smaller one where both it and C.ADDI16SP stand for the instruction;

@@ -1,10 +1,9 @@
 -- Sign extension, over the width. Assumes nothing.
-use mathlib.Core.Path.{_≡_, refl, sym, ap, subst, _∙_}
-use mathlib.Core.Logic.{_⊎_, inl, inr}
+use mathlib.Core.Path.{_≡_, ap, subst, _∙_}
 use Prim.Native.Nat.{ℕ, _+_, _-_, _*_, _/_, _%_, _^_, _<_, _≤_}
 use native.Mathlib.Nat.{le-of-lt, zero-mul, one-mul, zero-add, mul-assoc}
 use native.Mathlib.Omega.{arith}
-use lib.Pow.{pow-pos, pow-mono, pow-add, shr-lt, high-ones}
+use lib.Pow.{pow-pos, pow-mono, shr-lt, high-ones}
 use lib.Pow as Pow
 use Rattle.word.specs.Bits.{sext}
 

@@ -2,7 +2,7 @@
 use borrow.Author.Needs.{needs}
 use native.Mathlib.Omega.{arith}
 use mathlib.Core.Path.{_≡_, sym, _∙_}
-use Prim.Native.Nat.{_+_, _-_, _*_, _/_, _%_, _^_, _<_, _≤_}
+use Prim.Native.Nat.{_-_, _/_, _^_}
 use native.Mathlib.Nat.{add-comm}
 use lib.Pow.{pow-mono}
 use Rattle.word.proofs.Signs.{ones-from, sign-lt, sext-clear, sext-set}
