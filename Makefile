@@ -3,7 +3,7 @@
 
 demo:
 	rt check vectors
-	@printf 'The program compared, and wrote:\n    '; cat crates/vectors/stdout
+	@printf 'The program vectors wrote:\n    '; cat target/log/vectors.stdout
 
 test:
 	bash .ci/run
