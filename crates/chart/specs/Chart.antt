@@ -1,6 +1,6 @@
 -- The chart: the format class of an instruction, by bits 6 to 2 and funct3.
-use Prim.Native.Nat.{ℕ}
-use mathlib.Core.Bool.{Bool, false, cond, _||_}
+use Prim.Native.Nat.{ℕ, zero, suc, _+_, _/_, _%_}
+use mathlib.Core.Bool.{Bool, false, not, cond, _||_}
 use mathlib.Core.List.{List, [], _∷_}
 use lib.Dec.{eqb}
 use Rattle.word.specs.Bits.{bits}
@@ -70,3 +70,12 @@ classOf op f3 = find none rows op (λ row. cond (among f3 (row .0)) (row .1) non
 -- the entry of 32 bits
 abbrev pub charted : ℕ → ℕ
 charted w = classOf (bits w 6 2) (bits w 14 12)
+
+-- entry k is not 0
+abbrev pub filled : ℕ → Bool
+filled k = not (eqb (classOf (k / 8) (k % 8)) none)
+
+-- how many of the numbers below n pass the test
+unfoldable pub count : (ℕ → Bool) → ℕ → ℕ
+count test zero = 0
+count test (suc n) = cond (test n) 1 0 + count test n

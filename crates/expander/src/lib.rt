@@ -303,7 +303,8 @@ fn c_shift(o: ShiftOp, h: u32) -> Decoded
     ensures { λ r. ⌜ r ≡ c-shift o h ⌝ }
 {
     let rd = rd3(h);
-    clear12(h, Inst::Shift(o, rd, rd, rs_number(h)))
+    let amount = rs_number(h);
+    clear12(h, Inst::Shift(o, rd, rd, amount))
 }
 
 fn c_andi(h: u32) -> Decoded
@@ -382,7 +383,8 @@ fn c_slli(h: u32) -> Decoded
     ensures { λ r. ⌜ r ≡ c-slli h ⌝ }
 {
     let rd = rd5(h);
-    clear12(h, Inst::Shift(ShiftOp::Slli, rd, rd, rs_number(h)))
+    let amount = rs_number(h);
+    clear12(h, Inst::Shift(ShiftOp::Slli, rd, rd, amount))
 }
 
 fn c_lwsp(h: u32) -> Decoded

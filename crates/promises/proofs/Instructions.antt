@@ -7,11 +7,10 @@ use native.Mathlib.Omega.{arith}
 use borrow.Author.Tests.{lt-ltb, ltb-true}
 use lib.Dec.{ltb}
 use Rattle.word.proofs.Rows.{found}
-use Rattle.answers.specs.Answer.{given, refusedWith}
-use Rattle.isa.specs.declared.Inst.{Inst}
+use Rattle.answers.specs.Answer.{given}
 use Rattle.isa.specs.declared.Named.the-variants as N
 use Rattle.isa.specs.declared.Decoded.{Decoded}
-use Rattle.isa.specs.declared.Decoded.the-variants.{Legal, Illegal}
+use Rattle.isa.specs.declared.Decoded.the-variants.{Illegal}
 use Rattle.isa.specs.declared.Encoded.the-variants as E
 use Rattle.isa.specs.declared.Shortened.the-variants as S
 use Rattle.isa.specs.Registers.{reg}
@@ -26,10 +25,11 @@ use Rattle.shortest.specs.Trial.{tried}
 use Rattle.shortest.proofs.Shortest.{by-one, expanded-in-range, shortened-one, shortened-is, no-short-form, none-stands}
 use Rattle.roundtrip.proofs.Words as Words
 use Rattle.chart.proofs.Legal.{legal-charted}
-use Rattle.promises.specs.Instructions.{encodes, expands, Registers, DecodeRefuses, ExpandRefuses, EncodeRefuses, ShortenRefuses, NoShortForm, OtherWidth, DecodeOfEncode, EncodeOfDecode, ExpansionEncodes, ExpandOfShorten, ShortenOfExpand, LegalCharted}
-use Rattle.promises.proofs.Readings.{apart, legal-is, illegal-is, bits-is, out-is, half-is, eight-is, nine-is}
+use Rattle.chart.proofs.Count.{filled-57}
+use Rattle.promises.specs.Instructions.{Registers, DecodeRefuses, ExpandRefuses, EncodeRefuses, ShortenRefuses, NoShortForm, OtherWidth, DecodeOfEncode, EncodeOfDecode, ExpansionEncodes, ExpandOfShorten, ShortenOfExpand, LegalCharted, ChartFilled}
+use Rattle.promises.proofs.Readings.{apart, legal-is, bits-is, out-is, half-is, eight-is, nine-is, seven}
 
--- ---- refusals
+-- ---- round trips of the words, and refusals
 
 pub registers : Registers
 registers n = (go (ltb n 32) refl, λ l. rw (lt-ltb n 32 l))
@@ -38,22 +38,17 @@ registers n = (go (ltb n 32) refl, λ l. rw (lt-ltb n 32 l))
     go true t e = ltb-true n 32 t
     go false t e = let z : _≡_ {A = ℕ} 0 1 = cc in absurd (omega arith)
 
-pub decode-refuses : DecodeRefuses
-decode-refuses w l = (λ e i m. never i (illegal-is (decoded w) 7 e) (Words.decode-encoded i w (bits-is (encoded i) w m)), λ f. go f (decoded w) refl)
-  where
-    never : (i : Inst) → decoded w ≡ Illegal → decoded w ≡ Legal i → ⊥
-    never i p q = let z : _≡_ {A = ℕ} 0 1 = cc in omega arith
+pub decode-of-encode : DecodeOfEncode
+decode-of-encode i w e = ap ofDecoded (Words.decode-encoded i w (bits-is (encoded i) w e))
 
-    go : ((i : Inst) → encodes i ≡ given w → ⊥) → (d : Decoded) → decoded w ≡ d → ofDecoded d ≡ refusedWith 7
-    go f (Legal i) e = absurd (f i (ap ofEncoded (Words.encode-decode w i l e)))
-    go f Illegal e = refl
+pub encode-of-decode : EncodeOfDecode
+encode-of-decode w i l e = ap ofEncoded (Words.encode-decode w i l (legal-is (decoded w) i e))
+
+pub decode-refuses : DecodeRefuses
+decode-refuses w l = (λ e i m. apart (sym (decode-of-encode i w m) ∙ e), λ f. seven (decoded w) (λ i e. f i (encode-of-decode w i l e)))
 
 pub expand-refuses : ExpandRefuses
-expand-refuses h = (λ e i m. apart (sym m ∙ e), λ f. go f (expanded h) refl)
-  where
-    go : ((i : Inst) → expands h ≡ given i → ⊥) → (d : Decoded) → expanded h ≡ d → ofDecoded d ≡ refusedWith 7
-    go f (Legal i) e = absurd (f i (ap ofDecoded e))
-    go f Illegal e = refl
+expand-refuses h = (λ e i m. apart (sym m ∙ e), seven (expanded h))
 
 pub encode-refuses : EncodeRefuses
 encode-refuses i = (λ e. go (inRange i) (out-is (encoded i) 8 e), λ e. rw e)
@@ -96,13 +91,7 @@ not-short h e = rw e
 pub other-width : OtherWidth
 other-width = (λ w f. ap ofDecoded (not-long w f), λ h e. ap ofDecoded (not-short h e))
 
--- ---- round trips
-
-pub decode-of-encode : DecodeOfEncode
-decode-of-encode i w e = ap ofDecoded (Words.decode-encoded i w (bits-is (encoded i) w e))
-
-pub encode-of-decode : EncodeOfDecode
-encode-of-decode w i l e = ap ofEncoded (Words.encode-decode w i l (legal-is (decoded w) i e))
+-- ---- short and long
 
 pub expansion-encodes : ExpansionEncodes
 expansion-encodes h i l e = (wordOf i, rw (expanded-in-range h i l (legal-is (expanded h) i e)))
@@ -122,3 +111,6 @@ shorten-of-expand h i l e =
 
 pub charted-legal : LegalCharted
 charted-legal w i e z = legal-charted w i (legal-is (decoded w) i e) z
+
+pub chart-filled : ChartFilled
+chart-filled = filled-57

@@ -26,10 +26,6 @@ pub legal-is : (d : Decoded) (i : Inst) → ofDecoded d ≡ given i → d ≡ D.
 legal-is (D.Legal j) i e = ap D.Legal (value e)
 legal-is D.Illegal i e = absurd (apart (sym e))
 
-pub illegal-is : (d : Decoded) (n : ℕ) → ofDecoded d ≡ refusedWith n → d ≡ D.Illegal
-illegal-is (D.Legal j) n e = absurd (apart e)
-illegal-is D.Illegal n e = refl
-
 pub bits-is : (d : Encoded) (w : ℕ) → ofEncoded d ≡ given w → d ≡ E.Bits w
 bits-is (E.Bits v) w e = ap E.Bits (value e)
 bits-is E.OutOfRange w e = absurd (apart (sym e))
@@ -52,3 +48,8 @@ pub nine-is : (s : Shortened) → ofShortened s ≡ refusedWith 9 → s ≡ S.No
 nine-is (S.Half k) e = absurd (apart e)
 nine-is S.OutOfRange e = let z : _≡_ {A = ℕ} 8 9 = number e in absurd (omega arith)
 nine-is S.NoShortForm e = refl
+
+-- what is no instruction is refused with 7
+pub seven : (d : Decoded) → ((i : Inst) → ofDecoded d ≡ given i → ⊥) → ofDecoded d ≡ refusedWith 7
+seven (D.Legal i) f = absurd (f i refl)
+seven D.Illegal f = refl

@@ -11,7 +11,7 @@ use Rattle.isa.specs.Encoding.{inRange, encoded}
 use Rattle.isa.specs.Rvc.{expanded}
 use Rattle.isa.specs.Shortening.{shortened}
 use Rattle.isa.specs.Answers.{ofNamed, ofDecoded, ofEncoded, ofShortened}
-use Rattle.chart.specs.Chart.{charted}
+use Rattle.chart.specs.Chart.{charted, filled, count}
 
 -- ---- the answers of the four functions, as their contracts give them
 
@@ -82,3 +82,7 @@ ShortenOfExpand = (h : ℕ) (i : Inst) → h < 2 ^ 16 → expands h ≡ given i 
 -- a legal 32-bit instruction never has entry 0
 abbrev pub LegalCharted : Type 0
 LegalCharted = (w : ℕ) (i : Inst) → decodes w ≡ given i → charted w ≡ 0 → ⊥
+
+-- 57 of its 256 entries are not 0
+abbrev pub ChartFilled : Type 0
+ChartFilled = count filled 256 ≡ 57

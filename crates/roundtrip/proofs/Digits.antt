@@ -2,9 +2,10 @@
 -- A number has the digits exactly where its low bits are their sum, whatever the widths. Assumes nothing.
 use mathlib.Core.Path.{_≡_, refl, sym, ap, _∙_, subst}
 use Prim.Native.Nat.{ℕ, _+_, _*_, _/_, _%_, _^_, _<_}
-use native.Mathlib.Nat.{mod-lt, mod-eq-of-lt, add-assoc, add-zero, zero-mul, zero-add}
+use native.Mathlib.Nat.{mod-eq-of-lt, add-assoc, add-zero, zero-mul, zero-add}
 use native.Mathlib.Omega.{arith}
 use lib.Arith.{digits-lt}
+use Rattle.word.proofs.Scatter.{low-lt}
 use lib.Pow.{pow-pos, pow-add, mod-pow-add, high, low}
 
 -- `put k n ds`: the k low bits of n, above the digits ds. `last k n`: the k low bits of n, at bit 0. `clear k`: k bits that are 0, at bit 0
@@ -34,9 +35,6 @@ abbrev pub Has : ℕ → Digits → Type 0
 Has w (last k n) = w % 2 ^ k ≡ n % 2 ^ k
 Has w (clear k) = w % 2 ^ k ≡ 0
 Has w (put k n ds) = (w / 2 ^ width ds % 2 ^ k ≡ n % 2 ^ k) × Has w ds
-
-low-lt : (n k : ℕ) → n % 2 ^ k < 2 ^ k
-low-lt n k = mod-lt n (pow-pos k)
 
 sum-is : (a : ℕ) (ds : Digits) → sum a ds ≡ a + value ds
 sum-is a (last k n) = refl

@@ -40,7 +40,7 @@ downwards b end = true
 downwards b (last n w) = leb w b
 downwards b (put n w j ps) = leb (w + j) b && downwards j ps
 
-low-lt : (n w : ℕ) → n % 2 ^ w < 2 ^ w
+pub low-lt : (n w : ℕ) → n % 2 ^ w < 2 ^ w
 low-lt n w = mod-lt n (pow-pos w)
 
 cut-is : (n w j : ℕ) → w + j ≤ 32 → cut n w j ≡ n % 2 ^ w * 2 ^ j

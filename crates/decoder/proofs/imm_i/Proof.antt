@@ -8,7 +8,7 @@ use Rattle.decoder.proofs.imm_i.Statement.{statement}
 use Rattle.decoder.proofs.imm_i.Tie as tie
 
 sign-extend-requires : tie.Need-sign-extend-requires
-sign-extend-requires c κs = (omega arith, omega arith, mask-lt (c .args .bits / 2 ^ 20) 12)
+sign-extend-requires c κs = omega (arith, mask-lt (c .args .bits / 2 ^ 20) 12)
 
 returns : tie.Need-returns
 returns c = c .sign-extend .ensures ∙ ap (sext 12) (and-mask (c .before .args .bits / 2 ^ 20) 12)

@@ -12,7 +12,7 @@ abbrev pieces : ℕ → Pieces
 pieces w = last (w / 2 ^ 7) 5
 
 sign-extend-requires : tie.Need-sign-extend-requires
-sign-extend-requires c κs = (omega arith, omega arith, gathered-lt (c .args .bits / 2 ^ 25) 7 5 (pieces (c .args .bits)) tt)
+sign-extend-requires c κs = omega (arith, gathered-lt (c .args .bits / 2 ^ 25) 7 5 (pieces (c .args .bits)) tt)
 
 returns : tie.Need-returns
 returns c = c .sign-extend .ensures ∙ ap (sext 12) (gather (c .before .args .bits / 2 ^ 25) 7 5 (pieces (c .before .args .bits)) tt)
