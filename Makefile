@@ -1,9 +1,9 @@
-# make demo: proves the instruction set and compares it with outside vectors; make test: the gate
+# make demo: proves what the two programs need, and runs them; make test: the gate
 .PHONY: demo test
 
 demo:
-	rt check vectors
-	@printf 'The program vectors wrote:\n    '; cat target/log/vectors.stdout
+	rt check vectors cards
+	@printf 'The programs vectors and cards wrote:\n'; sed 's/^/    /' target/log/vectors.stdout target/log/cards.stdout
 
 test:
 	bash .ci/run

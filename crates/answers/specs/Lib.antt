@@ -1,2 +1,4 @@
 pub mod Refusals
 pub mod Answer
+pub mod Checks
+pub mod Stops

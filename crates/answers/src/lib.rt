@@ -1,6 +1,7 @@
-// The refusals of the paper, and the number that each has.
+// The refusals and the stops of the paper, and the number that each has.
 ghost use mathlib.Core.Path.{_≡_};
 ghost use Rattle.answers.specs.Refusals.{numberOf};
+ghost use Rattle.answers.specs.Stops.{stopNumber};
 
 pub enum Refusal {
     MemoryTooLong,
@@ -28,6 +29,47 @@ impl Refusal {
             Refusal::NoInstruction => 7,
             Refusal::Field => 8,
             Refusal::NoShortForm => 9,
+        }
+    }
+}
+
+// What an entry's tests of its input come to.
+pub enum Check {
+    Passed,
+    Refused(Refusal),
+}
+
+// Why a run does not go on; `Paused` where it can.
+pub enum Stop {
+    Paused,
+    Ecall,
+    Ebreak,
+    IllegalInstruction,
+    FetchOutside,
+    LoadMisaligned,
+    LoadOutside,
+    StoreMisaligned,
+    StoreOutside,
+    AlreadyBurnt,
+    CountFull,
+}
+
+impl Stop {
+    pub fn number(self) -> u8
+        ensures { λ r. ⌜ r ≡ stopNumber self ⌝ }
+    {
+        match self {
+            Stop::Paused => 0,
+            Stop::Ecall => 1,
+            Stop::Ebreak => 2,
+            Stop::IllegalInstruction => 3,
+            Stop::FetchOutside => 4,
+            Stop::LoadMisaligned => 5,
+            Stop::LoadOutside => 6,
+            Stop::StoreMisaligned => 7,
+            Stop::StoreOutside => 8,
+            Stop::AlreadyBurnt => 9,
+            Stop::CountFull => 10,
         }
     }
 }

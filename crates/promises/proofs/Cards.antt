@@ -1,5 +1,11 @@
--- The cards hold, by computation; a shortening is computed by the halfword to try. Assumes nothing.
-use mathlib.Core.Path.{refl, ap}
+-- The cards hold, by computation: a shortening by the halfword to try, and a run by its steps until it stops. Assumes nothing.
+use mathlib.Core.Path.{_≡_, refl, ap, _∙_}
+use mathlib.Core.Bool.{false}
+use mathlib.Core.List.{List}
+use Prim.Native.Nat.{ℕ, _+_}
+use native.Mathlib.Nat.{add-zero}
+use Rattle.answers.specs.declared.Check.{Check}
+use Rattle.answers.specs.declared.Check.the-variants.{Passed, Refused}
 use Rattle.isa.specs.declared.Inst.the-variants.{Imm}
 use Rattle.isa.specs.declared.ImmOp.the-variants.{Addi}
 use Rattle.isa.specs.Registers.{sp}
@@ -9,10 +15,45 @@ use Rattle.isa.specs.Rvc.{expanded}
 use Rattle.isa.specs.Answers.{ofShortened}
 use Rattle.shortest.specs.Trial.{tryFor}
 use Rattle.shortest.proofs.Shortest.{by-one}
-use Rattle.promises.specs.Cards.{cards, Claim}
+use Rattle.octets.specs.Bytes.{le, ofLe, load, store}
+use Rattle.place.specs.Map.{placed}
+use Rattle.part.specs.Row.{allKeep, burnt}
+use Rattle.access.specs.Accesses.{loadedFrom, storedTo}
+use Rattle.execute.specs.Execution.{effectOf}
+use Rattle.machine.specs.Steps.{World, fetchedWith, fetched, effectFetched, next, applied, paused, stepped, ran, retired}
+use Rattle.machine.specs.declared.Ran.{Ran}
+use Rattle.machine.specs.Entries.{Outcome, checked, runDecided, runEntry}
+use Rattle.machine.proofs.Laws.{ran-add, retired-add}
+use Rattle.promises.specs.Cards.{cards, Claim, endOf, start, blank, image, spent}
+use Rattle.promises.proofs.Steps.{stays-stopped}
+
+-- a run that has stopped after a steps ends so with any larger budget
+run-end : (a b : ℕ) (w : World) → paused (ran a w) ≡ false → runEntry (a + b) w ≡ runEntry a w
+unfolding runDecided
+run-end a b w p = go (checked w)
+  where
+    go : (c : Check) → runDecided c (a + b) w ≡ runDecided c a w
+    go Passed = let s = stays-stopped b (ran a w) p in rw (ran-add, retired-add, s .1, s .2, add-zero)
+    go (Refused r) = refl
+
+-- the first run stops in its fourth step and leaves word 0 burnt; the second, on that row, stops in its third
+abbrev spent-row : List ℕ
+spent-row = burnt 0 7 blank
+
+stops : (paused (ran 4 (start image blank)) ≡ false) × (runEntry 4 (start image blank) .row ≡ spent-row) × (paused (ran 3 (start image spent-row)) ≡ false)
+unfolding decoded expanded le ofLe load store placed burnt loadedFrom storedTo effectOf fetchedWith fetched effectFetched next applied stepped ran allKeep runDecided
+stops = (refl, refl, refl)
+
+first-run : runEntry 100 (start image blank) ≡ runEntry 4 (start image blank)
+first-run = run-end 4 96 (start image blank) (stops .0)
+
+second-run : runEntry 100 (start image spent) ≡ runEntry 3 (start image spent-row)
+second-run =
+    ap (λ f. runEntry 100 (start image f)) (ap (λ (o : Outcome Ran). o .row) first-run ∙ stops .1)
+    ∙ run-end 3 97 (start image spent-row) (stops .2)
 
 pub cards-hold : Claim cards
-unfolding decoded expanded inRange tryFor
+unfolding decoded expanded inRange tryFor le ofLe load store placed burnt loadedFrom storedTo effectOf fetchedWith fetched effectFetched next applied stepped ran retired allKeep runDecided
 cards-hold = (
   (refl, tt),
   (
@@ -27,7 +68,7 @@ cards-hold = (
             (refl, (refl, (refl, tt))),
             (
               (refl, (refl, (ap ofShortened (by-one (Imm Addi sp sp 16)), (refl, tt)))),
-              tt,
+              ((refl, (refl, tt)), ((λ rd next f. refl, tt), ((refl, (refl, tt)), ((ap endOf first-run, (refl, tt)), ((ap endOf second-run, tt), tt))))),
             ),
           ),
         ),

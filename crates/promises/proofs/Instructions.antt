@@ -1,15 +1,16 @@
 -- The promises of the instruction set: the round trips of the words, the sweep over the halfwords and the chart's rule, in the paper's numbers.
 -- Assumes nothing.
 use mathlib.Core.Path.{_≡_, refl, sym, ap, _∙_}
-use mathlib.Core.Bool.{Bool, true, false, cond}
+use mathlib.Core.Bool.{Bool, true, false, cond, _&&_, and-eq-true-iff}
+use mathlib.Core.List.{List, [], _∷_}
 use Prim.Native.Nat.{ℕ, _%_, _<_}
 use native.Mathlib.Omega.{arith}
-use borrow.Author.Tests.{lt-ltb, ltb-true}
-use lib.Dec.{ltb}
-use Rattle.word.proofs.Rows.{found}
+use borrow.Author.Tests.{lt-ltb, ltb-true, eqb-true, ne-eqb}
+use lib.Dec.{eqb, ltb}
+use Rattle.word.specs.Tables.{find}
 use Rattle.answers.specs.Answer.{given}
 use Rattle.isa.specs.declared.Named.the-variants as N
-use Rattle.isa.specs.declared.Decoded.{Decoded}
+use Rattle.isa.specs.declared.Inst.{Inst}
 use Rattle.isa.specs.declared.Decoded.the-variants.{Illegal}
 use Rattle.isa.specs.declared.Encoded.the-variants as E
 use Rattle.isa.specs.declared.Shortened.the-variants as S
@@ -26,7 +27,7 @@ use Rattle.shortest.proofs.Shortest.{by-one, expanded-in-range, shortened-one, 
 use Rattle.roundtrip.proofs.Words as Words
 use Rattle.chart.proofs.Legal.{legal-charted}
 use Rattle.chart.proofs.Count.{filled-57}
-use Rattle.promises.specs.Instructions.{Registers, DecodeRefuses, ExpandRefuses, EncodeRefuses, ShortenRefuses, NoShortForm, OtherWidth, DecodeOfEncode, EncodeOfDecode, ExpansionEncodes, ExpandOfShorten, ShortenOfExpand, LegalCharted, ChartFilled}
+use Rattle.promises.specs.Instructions.{decodes, Registers, DecodeRefuses, ExpandRefuses, EncodeRefuses, ShortenRefuses, NoShortForm, OtherWidth, DecodeOfEncode, EncodeOfDecode, ExpansionEncodes, ExpandOfShorten, ShortenOfExpand, LegalCharted, ChartFilled}
 use Rattle.promises.proofs.Readings.{apart, legal-is, bits-is, out-is, half-is, eight-is, nine-is, seven}
 
 -- ---- round trips of the words, and refusals
@@ -76,13 +77,37 @@ no-short i = (
   λ p. ap ofShortened (none-stands i (p .0) (λ h l m. p .1 h l (ap ofDecoded m))),
 )
 
--- every opcode's low two bits are 11
-not-long : (w : ℕ) → (w % 4 ≡ 3 → ⊥) → decoded w ≡ Illegal
-unfolding decoded
-not-long w f = found (λ d. d ≡ Illegal) Illegal refl (opcodes w) (opcode w) (λ m. m) (no 0b0110111 refl, (no 0b0010111 refl, (no 0b1101111 refl, (no 0b1100111 refl, (no 0b1100011 refl, (no 0b0000011 refl, (no 0b0100011 refl, (no 0b0010011 refl, (no 0b0110011 refl, (no 0b0001111 refl, (no 0b1110011 refl, tt)))))))))))
+-- no row of a table is found by a code that fails a test which every row's code passes
+passes : {A : Type 0} → (ℕ → Bool) → List (ℕ × A) → Bool
+passes test [] = true
+passes test (r ∷ t) = test (r .0) && passes test t
+
+none-found : {A B : Type 0} (test : ℕ → Bool) (d : B) (t : List (ℕ × A)) (k : ℕ) (f : A → B) → passes test t ≡ true → test k ≡ false → find d t k f ≡ d
+unfolding passes
+none-found test d [] k f p e = refl
+none-found test d (r ∷ t) k f p e =
+    let q = and-eq-true-iff (test (r .0)) (passes test t) .0 p in
+    rw (ne-eqb k (r .0) (λ z. let y : _≡_ {A = ℕ} 0 1 = cc in omega arith)) (none-found test d t k f (q .1) e)
+
+-- every opcode's low two bits are 11, and its low five are not 11111
+abbrev longCode : ℕ → Bool
+longCode k = eqb (k % 4) 3 && ltb (k % 32) 31
+
+none-long : (w : ℕ) → longCode (opcode w) ≡ false → decoded w ≡ Illegal
+unfolding decoded passes
+none-long w = none-found longCode Illegal (opcodes w) (opcode w) (λ m. m) refl
+
+pub legal-long : (w : ℕ) (i : Inst) → decodes w ≡ given i → (w % 4 ≡ 3) × (w % 32 < 31)
+legal-long w i e = go (longCode (opcode w)) refl
   where
-    no : (k : ℕ) {d : Decoded} → k % 4 ≡ 3 → opcode w ≡ k → d ≡ Illegal
-    no k t e = absurd (f (omega arith))
+    go : (b : Bool) → longCode (opcode w) ≡ b → (w % 4 ≡ 3) × (w % 32 < 31)
+    go true t =
+        let p = and-eq-true-iff (eqb (opcode w % 4) 3) (ltb (opcode w % 32) 31) .0 t in
+        (omega (arith, eqb-true (opcode w % 4) 3 (p .0)), omega (arith, ltb-true (opcode w % 32) 31 (p .1)))
+    go false t = absurd (apart (sym e ∙ ap ofDecoded (none-long w t)))
+
+not-long : (w : ℕ) → (w % 4 ≡ 3 → ⊥) → decoded w ≡ Illegal
+not-long w f = none-long w (rw (ne-eqb (opcode w % 4) 3 (λ z. f (omega arith))))
 
 not-short : (h : ℕ) → h % 4 ≡ 3 → expanded h ≡ Illegal
 unfolding expanded

@@ -1,3 +1,10 @@
 pub mod Readings
 pub mod Instructions
+pub mod Refusals
+pub mod Steps
+pub mod Fuses
+pub mod Bounds
+pub mod Invariants
+pub mod Cuts
+pub mod Burning
 pub mod Cards

@@ -16,7 +16,7 @@ use Rattle.isa.specs.Answers.{ofDecoded, ofEncoded, ofShortened}
 pub apart : {A : Type 0} {a : A} {n : ℕ} → given a ≡ refusedWith n → ⊥
 apart e = let z : _≡_ {A = ℕ} 0 1 = cc in omega arith
 
-number : {A : Type 0} {m n : ℕ} → _≡_ {A = Answer A} (refusedWith m) (refusedWith n) → m ≡ n
+pub number : {A : Type 0} {m n : ℕ} → _≡_ {A = Answer A} (refusedWith m) (refusedWith n) → m ≡ n
 number e = cc
 
 value : {A : Type 0} {a b : A} → given a ≡ given b → a ≡ b

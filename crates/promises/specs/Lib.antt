@@ -1,2 +1,6 @@
 pub mod Instructions
+pub mod Refusals
+pub mod Steps
+pub mod Cuts
+pub mod Burning
 pub mod Cards

@@ -1,0 +1,117 @@
+// Loads and stores: where the access lies, and what it does there.
+use answers::Stop;
+use isa::LoadOp;
+use isa::Reg;
+use isa::StoreOp;
+use octets::Width;
+use octets::load1;
+use octets::load2;
+use octets::load4;
+use octets::store_of;
+use part::burn;
+use part::is_burnt;
+use part::value_of;
+use place::Place;
+use place::place_of;
+use word::sign_extend;
+ghost use mathlib.Core.Path.{_≡_};
+ghost use Prim.Native.Nat.{_+_, _≤_};
+ghost use lib.ListN.{length};
+ghost use Rattle.octets.specs.Bytes.{load};
+ghost use Rattle.octets.specs.Widths.{bytes};
+ghost use Rattle.access.specs.Accesses.{done, loadWidth, extended, loaded, storeWidth, stored};
+
+// What an instruction does: a register gets a value and the next instruction is at pc, or the run stops.
+pub enum Effect {
+    Next { rd: Reg, value: u32, pc: u32 },
+    Halt(Stop),
+}
+
+fn load_width(op: LoadOp) -> Width
+    ensures { λ r. ⌜ r ≡ loadWidth op ⌝ }
+{
+    match op {
+        LoadOp::Lb => Width::One,
+        LoadOp::Lh => Width::Two,
+        LoadOp::Lw => Width::Four,
+        LoadOp::Lbu => Width::One,
+        LoadOp::Lhu => Width::Two,
+    }
+}
+
+fn store_width(op: StoreOp) -> Width
+    ensures { λ r. ⌜ r ≡ storeWidth op ⌝ }
+{
+    match op {
+        StoreOp::Sb => Width::One,
+        StoreOp::Sh => Width::Two,
+        StoreOp::Sw => Width::Four,
+    }
+}
+
+// What a register gets of the bytes of memory from at.
+fn extended_load(op: LoadOp, mem: &[u8], at: usize) -> u32
+    requires { ⌜ at + bytes (loadWidth op) ≤ length (now mem) ⌝ }
+    ensures { λ r. ⌜ r ≡ extended op (load (bytes (loadWidth op)) at (now (mem .entry))) ⌝ }
+{
+    match op {
+        LoadOp::Lb => sign_extend(load1(mem, at) as u32, 8),
+        LoadOp::Lh => sign_extend(load2(mem, at) as u32, 16),
+        LoadOp::Lw => load4(mem, at),
+        LoadOp::Lbu => load1(mem, at) as u32,
+        LoadOp::Lhu => load2(mem, at) as u32,
+    }
+}
+
+// A load into rd from an address, before the instruction at next.
+pub fn load(op: LoadOp, rd: Reg, address: u32, next: u32, mem: &[u8], row: &[u8]) -> Effect
+    requires { ⌜ length (now row) ≡ 512 ⌝ }
+    ensures { λ r. ⌜ r ≡ loaded op rd address next (now (mem .entry)) (now (row .entry)) ⌝ }
+{
+    let place = place_of(address, load_width(op), mem.len());
+    match place {
+        Place::Memory(at) => Effect::Next {
+            rd,
+            value: extended_load(op, mem, at),
+            pc: next,
+        },
+        Place::Fuse(k) => Effect::Next {
+            rd,
+            value: value_of(row, k),
+            pc: next,
+        },
+        Place::Misaligned => Effect::Halt(Stop::LoadMisaligned),
+        Place::Outside => Effect::Halt(Stop::LoadOutside),
+    }
+}
+
+// A store of v at an address, before the instruction at next.
+pub fn store(op: StoreOp, v: u32, address: u32, next: u32, mem: &mut [u8], row: &mut [u8]) -> Effect
+    requires { ⌜ length (now row) ≡ 512 ⌝ }
+    ensures { λ r. ⌜ done r (now (mem .exit)) (now (row .exit)) ≡ stored op v address next (now (mem .entry)) (now (row .entry)) ⌝ }
+{
+    let place = place_of(address, store_width(op), mem.len());
+    match place {
+        Place::Memory(at) => {
+            store_of(mem, at, store_width(op), v);
+            Effect::Next {
+                rd: Reg::ZERO,
+                value: 0,
+                pc: next,
+            }
+        }
+        Place::Fuse(k) => {
+            if is_burnt(row, k) {
+                return Effect::Halt(Stop::AlreadyBurnt);
+            }
+            burn(row, k, v);
+            Effect::Next {
+                rd: Reg::ZERO,
+                value: 0,
+                pc: next,
+            }
+        }
+        Place::Misaligned => Effect::Halt(Stop::StoreMisaligned),
+        Place::Outside => Effect::Halt(Stop::StoreOutside),
+    }
+}

@@ -1,0 +1,15 @@
+-- What an entry asks of its input before anything else: tests in rising order of the refusal numbers, and the first that fails decides.
+use mathlib.Core.Bool.{Bool, cond}
+use Rattle.answers.specs.declared.Refusal.{Refusal}
+use Rattle.answers.specs.declared.Check.{Check}
+use Rattle.answers.specs.declared.Check.the-variants.{Passed, Refused}
+use Rattle.answers.specs.Answer.{Answer, given, refused}
+
+-- refused with r unless the test holds; then the tests that follow decide
+abbrev pub unless : Bool → Refusal → Check → Check
+unless test r rest = cond test rest (Refused r)
+
+-- in the paper's terms: the values that are given where every test holds, or the refusal's number
+abbrev pub ofCheck : {A : Type 0} → Check → A → Answer A
+ofCheck Passed a = given a
+ofCheck (Refused r) a = refused r

@@ -1,0 +1,156 @@
+-- The laws of steps and runs: runs add up, a stopped world stays, and the count grows by the steps that complete. Assumes nothing.
+use Prim.Native.Nat.{ℕ, zero, suc, _+_, _-_, _%_, _≤_, _<_, _^_}
+use native.Mathlib.Nat.{zero-add, suc-add}
+use native.Mathlib.Omega.{arith}
+use mathlib.Core.Path.{_≡_, refl, sym, _∙_}
+use mathlib.Core.Bool.{Bool, true, false, cond, _&&_}
+use mathlib.Core.List.{List}
+use lib.ListN.{length}
+use lib.Dec.{eqb, leb}
+use borrow.Author.Tests.{eqb-true, eq-eqb, ne-eqb, le-leb, lt-ltb, le-ltb}
+use Rattle.answers.specs.Checks.{unless}
+use Rattle.answers.specs.declared.Refusal.{Refusal}
+use Rattle.answers.specs.declared.Refusal.the-variants.{MemoryTooLong, RowLength, RowRecord}
+use Rattle.answers.specs.declared.Check.{Check}
+use Rattle.answers.specs.declared.Check.the-variants.{Passed, Refused}
+use Rattle.answers.specs.declared.Stop.{Stop}
+use Rattle.answers.specs.declared.Stop.the-variants.{FetchOutside, CountFull}
+use Rattle.isa.specs.declared.Reg.{Reg}
+use Rattle.isa.specs.declared.Decoded.{Decoded}
+use Rattle.isa.specs.Decoding.{decoded}
+use Rattle.isa.specs.Rvc.{expanded}
+use Rattle.octets.specs.Bytes.{load}
+use Rattle.part.specs.Row.{allKeep}
+use Rattle.alu.specs.Arithmetic.{flag}
+use Rattle.access.specs.Accesses.{done}
+use Rattle.access.specs.declared.Effect.{Effect}
+use Rattle.access.specs.declared.Effect.the-variants.{Next, Halt}
+use Rattle.state.specs.declared.State.{State}
+use Rattle.state.specs.States.{written, advanced, halted}
+use Rattle.machine.specs.Steps.{World, world, fails, legal, fetchedWith, fetched, effectAt, applied, after, next, paused, stepped, ran, goesOn, completes, retired}
+use Rattle.machine.specs.Entries.{boardChecked}
+
+-- ---- runs
+
+pub ran-add : (a b : ℕ) (w : World) → ran (a + b) w ≡ ran b (ran a w)
+unfolding ran
+ran-add zero b w = rw zero-add
+ran-add (suc a) b w = rw suc-add (ran-add a b (stepped w))
+
+pub step-stopped : (w : World) → (w .st .stop ≡ 0 → ⊥) → stepped w ≡ w
+unfolding stepped
+step-stopped w h = rw (ne-eqb _ _ h)
+
+pub ran-stopped : (n : ℕ) (w : World) → (w .st .stop ≡ 0 → ⊥) → ran n w ≡ w
+unfolding ran
+ran-stopped zero w h = refl
+ran-stopped (suc n) w h = rw (step-stopped w h) (ran-stopped n w h)
+
+-- ---- the retired count
+
+applied-count : (e : Effect) (s : State) → applied e s .count ≡ s .count + flag (goesOn e)
+unfolding applied
+applied-count (Next rd v pc) s = refl
+applied-count (Halt why) s = omega arith
+
+cond-count : (b : Bool) (w : World) → cond b (after (next w) (w .st)) w .st .count ≡ w .st .count + flag (b && goesOn (next w .effect))
+cond-count true w = applied-count (next w .effect) (w .st)
+cond-count false w = omega arith
+
+pub count-stepped : (w : World) → stepped w .st .count ≡ w .st .count + flag (completes w)
+unfolding stepped
+count-stepped w = cond-count (paused w) w
+
+pub count-ran : (n : ℕ) (w : World) → ran n w .st .count ≡ w .st .count + retired n w
+unfolding ran retired
+count-ran zero w = omega arith
+count-ran (suc n) w = let h = count-ran n (stepped w) in let k = count-stepped w in omega arith
+
+pub retired-add : (a b : ℕ) (w : World) → retired (a + b) w ≡ retired a w + retired b (ran a w)
+unfolding ran retired
+retired-add zero b w = rw (zero-add b) (omega arith)
+retired-add (suc a) b w = rw suc-add (let h = retired-add a b (stepped w) in omega arith)
+
+-- ---- fetching
+
+-- two bytes
+pub fetch-short : {h : ℕ} {d : Decoded} (pc : ℕ) (m : List ℕ) → pc + 2 ≤ length m → h ≡ load 2 pc m → (h % 32 ≡ 31 → ⊥) → (h % 4 ≡ 3 → ⊥)
+    → d ≡ expanded h → fetched pc m ≡ legal d 2
+unfolding fetched fetchedWith
+fetch-short pc m w e a b d = rw (le-leb _ _ w, ← e, ne-eqb _ _ a, ne-eqb _ _ b, ← d)
+
+-- low two bits 11: by the two bytes that follow
+pub fetch-long : {h : ℕ} (pc : ℕ) (m : List ℕ) → pc + 2 ≤ length m → h ≡ load 2 pc m → (h % 32 ≡ 31 → ⊥) → h % 4 ≡ 3
+    → fetched pc m ≡ cond (leb (pc + 4) (length m)) (legal (decoded (load 4 pc m)) 4) (fails FetchOutside)
+unfolding fetched fetchedWith
+fetch-long pc m w e a b = rw (le-leb _ _ w, ← e, ne-eqb _ _ a, eq-eqb _ _ b)
+
+-- ---- one step
+
+-- a turn of the loop
+pub ran-turn : {w′ : World} (n : ℕ) (w : World) → 0 < n → w′ ≡ stepped w → ran (n - 1) w′ ≡ ran n w
+unfolding ran
+ran-turn zero w h e = absurd (omega arith)
+ran-turn (suc n) w h e = let k : suc n - 1 ≡ n = omega arith in rw (k, e)
+
+-- a step comes to what its instruction does
+goes : (w : World) → w .st .stop ≡ 0 → w .st .count < 2 ^ 64 - 1
+    → stepped w ≡ after (effectAt (w .st .pc) (w .st .x) (w .mem) (w .row)) (w .st)
+unfolding stepped next
+goes w h k = rw (eq-eqb _ _ h, lt-ltb _ _ k)
+
+pub step-next : {e : Effect} {rd : Reg} {v pc : ℕ} {m f : List ℕ} (w : World) → w .st .stop ≡ 0 → w .st .count < 2 ^ 64 - 1
+    → done e m f ≡ effectAt (w .st .pc) (w .st .x) (w .mem) (w .row) → e ≡ Next rd v pc
+    → world (advanced pc (written rd v (w .st))) m f ≡ stepped w
+unfolding applied
+step-next w h k d e = rw (goes w h k, ← d, e)
+
+pub step-halt : {e : Effect} {why : Stop} {m f : List ℕ} (w : World) → w .st .stop ≡ 0 → w .st .count < 2 ^ 64 - 1
+    → done e m f ≡ effectAt (w .st .pc) (w .st .x) (w .mem) (w .row) → e ≡ Halt why
+    → world (halted why (w .st)) m f ≡ stepped w
+unfolding applied
+step-halt w h k d e = rw (goes w h k, ← d, e)
+
+full-step : (w : World) → w .st .stop ≡ 0 → 2 ^ 64 - 1 ≤ w .st .count → world (halted CountFull (w .st)) (w .mem) (w .row) ≡ stepped w
+unfolding stepped next applied
+full-step w h k = rw (eq-eqb _ _ h, le-ltb _ _ k)
+
+-- a step at the last count stops, and so does the run
+pub ran-full : (n : ℕ) (w : World) → 0 < n → w .st .stop ≡ 0 → 2 ^ 64 - 1 ≤ w .st .count
+    → world (halted CountFull (w .st)) (w .mem) (w .row) ≡ ran n w
+ran-full n w p h k =
+    let full : World = world (halted CountFull (w .st)) (w .mem) (w .row) in
+    let e : full ≡ stepped w = full-step w h k in
+    sym (ran-stopped (n - 1) full (λ z. omega arith)) ∙ ran-turn n w p e
+
+-- ---- refusals
+
+-- three tests, and those that follow: where one of the three refuses, the rest does not matter; where all pass, the rest decides
+refused-early : (a b c : Bool) (p q s : Refusal) {r : Refusal} (rest : Check) → unless a p (unless b q (unless c s Passed)) ≡ Refused r
+    → unless a p (unless b q (unless c s rest)) ≡ Refused r
+refused-early true true true p q s rest e = cc
+refused-early true true false p q s rest e = e
+refused-early true false c p q s rest e = e
+refused-early false b c p q s rest e = e
+
+passed-early : (a b c : Bool) (p q s : Refusal) (rest : Check) → unless a p (unless b q (unless c s Passed)) ≡ Passed
+    → unless a p (unless b q (unless c s rest)) ≡ rest
+passed-early true true true p q s rest e = refl
+passed-early true true false p q s rest e = cc
+passed-early true false c p q s rest e = cc
+passed-early false b c p q s rest e = cc
+
+passed-second : (a b : Bool) (p q : Refusal) (rest : Check) → unless a p (unless b q rest) ≡ Passed → b ≡ true
+passed-second a true p q rest e = refl
+passed-second true false p q rest e = cc
+passed-second false false p q rest e = cc
+
+module _ (m f : List ℕ) (rest : Check) where
+  pub board-refused : {r : Refusal} → boardChecked m f Passed ≡ Refused r → boardChecked m f rest ≡ Refused r
+  board-refused e = refused-early (leb (length m) 65536) (eqb (length f) 512) (allKeep 64 f) MemoryTooLong RowLength RowRecord rest e
+
+  pub board-passed : boardChecked m f Passed ≡ Passed → boardChecked m f rest ≡ rest
+  board-passed e = passed-early (leb (length m) 65536) (eqb (length f) 512) (allKeep 64 f) MemoryTooLong RowLength RowRecord rest e
+
+  pub board-length : boardChecked m f rest ≡ Passed → length f ≡ 512
+  board-length e = eqb-true _ _ (passed-second (leb (length m) 65536) (eqb (length f) 512) MemoryTooLong RowLength (unless (allKeep 64 f) RowRecord rest) e)

@@ -1,0 +1,35 @@
+-- What the board is refused with decides; where it passes, the state does. Assumes nothing.
+use mathlib.Core.Path.{sym, _∙_}
+use borrow.Author.Needs.{needs}
+use borrow.Author.Tests.{not-true, not-false}
+use Rattle.machine.specs.Entries.{stateChecked}
+use Rattle.machine.proofs.Laws.{board-refused, board-passed}
+use Rattle.machine.proofs.check.Statement.{statement}
+use Rattle.machine.proofs.check.Tie as tie
+
+returns : tie.Need-returns
+returns c =
+    let at = c .before .before .before .before .before .before .args in
+    sym (board-refused (at .mem .now) (at .row .now) (stateChecked (at .s)) (sym (c .before .before .before .check-board .ensures) ∙ c .before .r .given .1))
+
+returns-2 : tie.Need-returns-2
+returns-2 c =
+    let at = c .before .before .before .before .before .before .before .args in
+    rw (board-passed (at .mem .now) (at .row .now) (stateChecked (at .s)) (sym (c .before .before .before .before .check-board .ensures) ∙ c .before .before .enum-told .given .1), ← c .before .is-well-formed .ensures, not-true (c .before .is-well-formed .result) (c .if1 .taken))
+
+returns-3 : tie.Need-returns-3
+returns-3 c =
+    let at = c .before .before .before .before .before .before .before .args in
+    rw (board-passed (at .mem .now) (at .row .now) (stateChecked (at .s)) (sym (c .before .before .before .before .check-board .ensures) ∙ c .before .before .enum-told .given .1), ← c .before .is-well-formed .ensures, not-false (c .before .is-well-formed .result) (c .if1 .left))
+
+pub check-spec : {M : Type 1} → statement M
+check-spec =
+    tie.close
+    (tie.spec
+    _
+    (λ c. search needs)
+    returns
+    (λ c. search needs)
+    _
+    returns-2
+    returns-3)

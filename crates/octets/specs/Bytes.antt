@@ -1,0 +1,20 @@
+-- Little-endian numbers in bytes, over the width n: the n bytes of a number, lowest first, and the number that bytes say; a load and a store of n bytes at an address.
+use Prim.Native.Nat.{ℕ, zero, suc, _+_, _*_, _/_, _%_}
+use mathlib.Core.List.{List, [], _∷_, _++_}
+use lib.ListN.{take, drop}
+
+unfoldable pub le : ℕ → ℕ → List ℕ
+le zero v = []
+le (suc n) v = v % 256 ∷ le n (v / 256)
+
+unfoldable pub ofLe : List ℕ → ℕ
+ofLe [] = 0
+ofLe (b ∷ bs) = b + 256 * ofLe bs
+
+-- the number in the n bytes from a
+unfoldable pub load : ℕ → ℕ → List ℕ → ℕ
+load n a m = ofLe (take n (drop a m))
+
+-- the n bytes from a say v, modulo 2 ^ (8 * n), and the others stay
+unfoldable pub store : ℕ → ℕ → ℕ → List ℕ → List ℕ
+store n a v m = take a m ++ le n v ++ drop (a + n) m

@@ -1,0 +1,184 @@
+-- A cut run ends as the uncut one. A record reads back as its state, and a step keeps all that the entries ask, so each piece starts where the piece before it ended and is accepted; runs add up.
+-- Assumes nothing.
+use mathlib.Core.Path.{_≡_, refl, sym, ap, _∙_}
+use mathlib.Core.Bool.{Bool, true, false, and-eq-true-iff}
+use mathlib.Core.List.{List, [], _∷_}
+use Prim.Native.Nat.{ℕ, _+_, _*_, _/_, _%_, _^_, _≤_, _<_}
+use native.Mathlib.Omega.{arith}
+use lib.ListN.{length, drop}
+use lib.Dec.{eqb, leb}
+use borrow.Author.Tests.{ltb-true}
+use Rattle.answers.specs.Answer.{Answer, given}
+use Rattle.answers.specs.Checks.{unless}
+use Rattle.answers.specs.declared.Refusal.{Refusal}
+use Rattle.answers.specs.declared.Refusal.the-variants as R
+use Rattle.answers.specs.declared.Check.{Check}
+use Rattle.answers.specs.declared.Check.the-variants.{Passed, Refused}
+use Rattle.octets.specs.Bytes.{load}
+use Rattle.part.specs.Row.{allKeep}
+use Rattle.state.specs.declared.State.{State}
+use Rattle.state.specs.States.{noState, wellFormed}
+use Rattle.state.specs.Sizes.{AllBelow}
+use Rattle.machine.specs.Steps.{World, world, ran, retired}
+use Rattle.machine.specs.Entries.{boardChecked, checked, runGiven, runDecided, runEntry, ofRan}
+use Rattle.machine.proofs.Laws.{ran-add, retired-add}
+use Rattle.records.specs.Records.{recordOf, stateOf, recordSound}
+use Rattle.records.proofs.Records.{length-record, rest-zero, read-back}
+use Rattle.slots.specs.Slots.{slotThere, slotAt, slotSet, writeDecided, writeEntry, readChecked, readDecided, readEntry, ofReadBack, slotWorld, resumeChecked, resumeDecided}
+use Rattle.slots.proofs.Slots.{slot-set-at, slot-set-length}
+use Rattle.promises.specs.Cuts.{Sized, Bench, bench, pieceStart, piece, pieces, answers, total, manual, Cut, sumRetired, RetiredAddsUp, SlotRunIsPiece}
+use Rattle.promises.proofs.Bounds.{below-take, below-drop, read-fits}
+use Rattle.promises.proofs.Refusals.{accepted-passes}
+use Rattle.promises.proofs.Invariants.{Good, test, good-passes, passes-good, good-ran}
+
+-- ---- one piece
+
+run-good : (b : ℕ) {v w : World} → v ≡ w → Good w → runEntry b v ≡ runGiven (retired b w) (ran b w)
+unfolding runDecided
+run-good b {v} {w} e g = ap (runEntry b) e ∙ ap (λ c. runDecided c b w) (good-passes w g)
+
+write-good : (k : ℕ) (s : State) (slots : List ℕ) → slotThere k slots ≡ true → wellFormed s ≡ true → writeEntry k s slots .slots ≡ slotSet k (recordOf s) slots
+unfolding writeDecided
+write-good k s slots t h = rw (t, h)
+
+-- what is left of a run that ended at v
+abbrev left : ℕ → World → List ℕ → Bench
+left k v slots = bench (v .mem) (v .row) (slotSet k (recordOf (v .st)) slots)
+
+piece-good : (k b n : ℕ) (h : Bench) (v : World) → slotThere k (h .slots) ≡ true → Good v → runEntry b (pieceStart k h) ≡ runGiven n v → piece k b h ≡ left k v (h .slots)
+unfolding piece
+piece-good k b n h v t g e =
+    ap (λ o. bench (o .mem) (o .row) (writeEntry k (o .answer .state) (h .slots) .slots)) e
+    ∙ ap (bench (v .mem) (v .row)) (write-good k (v .st) (h .slots) t (g .formed))
+
+-- a refused piece leaves everything: there is no state to write
+piece-refused : (k b : ℕ) (h : Bench) (r : Refusal) → checked (pieceStart k h) ≡ Refused r → piece k b h ≡ h
+unfolding piece runDecided writeDecided
+piece-refused k b h r e = rw e (ap (bench _ _) (go (slotThere k (h .slots))))
+  where
+    go : (t : Bool) → writeDecided (unless t R.Slot (Refused R.State)) k noState (h .slots) .slots ≡ h .slots
+    go true = refl
+    go false = refl
+
+-- ---- the pieces, one after the other
+
+-- slot k holds the record of s
+record Holds (k : ℕ) (s : State) (slots : List ℕ) : Type 0 where
+  there : slotThere k slots ≡ true
+  held : slotAt k slots ≡ recordOf s
+
+-- a slot that is there lies within
+within : (k : ℕ) (slots : List ℕ) → slotThere k slots ≡ true → 144 * k + 144 ≤ length slots
+within k slots t = let l : k < length slots / 144 = ltb-true _ _ (and-eq-true-iff (eqb (length slots % 144) 0) _ .0 t .1) in omega arith
+
+holds-set : (k : ℕ) (s : State) (slots : List ℕ) → length (s .x) ≡ 31 → slotThere k slots ≡ true → Holds k s (slotSet k (recordOf s) slots)
+holds-set k s slots l t =
+    let r = length-record s l in
+    let i = within k slots t in
+    record { there = rw (slot-set-length k (recordOf s) slots r i) t; held = slot-set-at k (recordOf s) slots r i }
+
+read-held : (k : ℕ) (s : State) (slots : List ℕ) {m f : List ℕ} → Holds k s slots → Good (world s m f) → readEntry k slots ≡ record { check = Passed; state = s }
+unfolding readDecided
+read-held k s slots h g =
+    let e : stateOf (slotAt k slots) ≡ s = ap stateOf (h .held) ∙ read-back s (g .state-fits) in
+    rw (h .there, e, g .formed, h .held, rest-zero s (g .state-fits .x-length)) (λ i. record { check = Passed; state = e i })
+
+-- pieces that end at p and answer a, where the manual ends at v and answers e
+abbrev Ends : ℕ → Bench → List (Answer (State × ℕ)) → World → List (Answer (State × ℕ)) → Type 0
+Ends k p a v e = (ofReadBack (readEntry k (p .slots)) ≡ given (v .st)) × (p .mem ≡ v .mem) × (p .row ≡ v .row) × (a ≡ e)
+
+moved : (k : ℕ) {p q : Bench} {v u : World} {a e : List (Answer (State × ℕ))} → p ≡ q → v ≡ u → Ends k q a u e → Ends k p a v e
+moved k c d h = rw (c, d) h
+
+ends : (k : ℕ) (bs : List ℕ) (h : Bench) (s : State) → Holds k s (h .slots) → Good (world s (h .mem) (h .row))
+    → Ends k (pieces k bs h) (answers k bs h) (ran (total bs) (world s (h .mem) (h .row))) (manual bs (world s (h .mem) (h .row)))
+unfolding pieces answers total manual ran
+ends k [] h s p g = (ap ofReadBack (read-held k s (h .slots) p g), refl, refl, refl)
+ends k (b ∷ bs) h s p g =
+    let w : World = world s (h .mem) (h .row) in
+    let v : World = ran b w in
+    let g′ : Good v = good-ran b w g in
+    let o = run-good b (ap (λ q. world (q .state) (h .mem) (h .row)) (read-held k s (h .slots) p g)) g in
+    let e : piece k b h ≡ left k v (h .slots) = piece-good k b (retired b w) h v (p .there) g′ o in
+    let a : ofRan (runEntry b (pieceStart k h) .answer) ≡ given (v .st, retired b w) = ap (λ q. ofRan (q .answer)) o in
+    let i = ends k bs (left k v (h .slots)) (v .st) (holds-set k (v .st) (h .slots) (g′ .state-fits .x-length) (p .there)) g′ in
+    moved k (ap (pieces k bs) e) (ran-add b (total bs) w) (i .0, i .1, i .2, λ j. a j ∷ (ap (answers k bs) e ∙ i .3) j)
+
+pub cut : Cut
+cut k bs s m f slots z a t =
+    let w : World = world s m f in
+    let g : Good w = passes-good w z (accepted-passes w a) in
+    rw (write-good k s slots t (g .formed)) (ends k bs (bench m f (slotSet k (recordOf s) slots)) s (holds-set k s slots (z .state-fits .x-length) t) g)
+
+pub retired-adds-up : RetiredAddsUp
+unfolding sumRetired total retired
+retired-adds-up [] w = refl
+retired-adds-up (b ∷ bs) w = ap (λ n. retired b w + n) (retired-adds-up bs (ran b w)) ∙ sym (retired-add b (total bs) w)
+
+-- ---- running a slot
+
+-- a board that is refused, or what follows it refused
+refused-board : (m f : List ℕ) (r : Refusal) → (q : Refusal) × (boardChecked m f (Refused r) ≡ Refused q)
+refused-board m f r = go (leb (length m) 65536) (eqb (length f) 512) (allKeep 64 f)
+  where
+    go : (a b c : Bool) → (q : Refusal) × (unless a R.MemoryTooLong (unless b R.RowLength (unless c R.RowRecord (Refused r))) ≡ Refused q)
+    go true true true = (r, refl)
+    go true true false = (R.RowRecord, refl)
+    go true false c = (R.RowLength, refl)
+    go false b c = (R.MemoryTooLong, refl)
+
+module _ (b k : ℕ) (m f slots : List ℕ) where
+  abbrev lent : Bench
+  lent = bench m f slots
+
+  -- what running the slot leaves, by its check
+  abbrev leaves : Check → Bench
+  leaves c = bench (resumeDecided c b k m f slots .mem) (resumeDecided c b k m f slots .row) (resumeDecided c b k m f slots .slots)
+
+  abbrev Same : Type 0
+  Same = leaves (resumeChecked k m f slots) ≡ piece k b lent
+
+  both-refused : (p q : Refusal) → resumeChecked k m f slots ≡ Refused p → checked (pieceStart k lent) ≡ Refused q → Same
+  unfolding resumeDecided
+  both-refused p q e d = ap leaves e ∙ sym (piece-refused k b lent q d)
+
+  both-run : slotThere k slots ≡ true → pieceStart k lent ≡ slotWorld k m f slots → Good (slotWorld k m f slots) → resumeChecked k m f slots ≡ Passed → Same
+  unfolding resumeDecided
+  both-run t a g e =
+      let w : World = slotWorld k m f slots in
+      ap leaves e ∙ sym (piece-good k b (retired b w) lent (ran b w) t (good-ran b w g) (run-good b a g))
+
+  unread : (r : Refusal) → readChecked k slots ≡ Refused r → Same
+  unfolding readDecided
+  unread r e =
+      let p = refused-board m f r in
+      let q = refused-board m f R.State in
+      both-refused (p .0) (q .0) (rw e (p .1)) (rw e (q .1))
+
+  -- the state that was read fits, for bytes are bytes
+  read : AllBelow (2 ^ 8) m → AllBelow (2 ^ 8) f → AllBelow (2 ^ 8) slots → readChecked k slots ≡ Passed → Same
+  unfolding readDecided
+  read mb fb sb e =
+      let part : List ℕ = slotAt k slots in
+      let t = test (slotThere k slots) R.Slot _ e in
+      let formed : wellFormed (stateOf part) ≡ true = and-eq-true-iff _ (eqb (load 7 137 part) 0) .0 (test (recordSound part) R.State Passed (t .1) .0) .0 in
+      let a : pieceStart k lent ≡ slotWorld k m f slots = ap (λ c. world (readDecided c k slots .state) m f) e in
+      let c : checked (slotWorld k m f slots) ≡ boardChecked m f Passed = ap (λ q. boardChecked m f (unless q R.State Passed)) formed in
+      let z : Sized (slotWorld k m f slots) = record {
+        state-fits = read-fits part (below-take (2 ^ 8) 144 (drop (144 * k) slots) (below-drop (2 ^ 8) (144 * k) slots sb));
+        mem-bytes = mb;
+        row-bytes = fb;
+      } in
+      go (boardChecked m f Passed) (ap (boardChecked m f) e) (t .0) a c z
+    where
+      go : (d : Check) → resumeChecked k m f slots ≡ d → slotThere k slots ≡ true → pieceStart k lent ≡ slotWorld k m f slots
+          → checked (slotWorld k m f slots) ≡ d → Sized (slotWorld k m f slots) → Same
+      go Passed d t a c z = both-run t a (passes-good (slotWorld k m f slots) z c) d
+      go (Refused r) d t a c z = both-refused r r d (ap checked a ∙ c)
+
+pub slot-run-is-piece : SlotRunIsPiece
+slot-run-is-piece b k m f slots mb fb sb = go (readChecked k slots) refl
+  where
+    go : (c : Check) → readChecked k slots ≡ c → Same b k m f slots
+    go Passed e = read b k m f slots mb fb sb e
+    go (Refused r) e = unread b k m f slots r e

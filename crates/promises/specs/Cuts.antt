@@ -1,0 +1,78 @@
+-- Demand 3, first part: however a run's budget is cut, with the state written to a slot and read back at each cut, the end is that of the manual's steps under the whole budget.
+-- Each statement is proved in proofs/Cuts.antt.
+use mathlib.Core.Path.{_≡_}
+use mathlib.Core.Bool.{true}
+use mathlib.Core.List.{List, [], _∷_}
+use Prim.Native.Nat.{ℕ, _+_, _^_}
+use Rattle.answers.specs.Answer.{Answer, given}
+use Rattle.state.specs.declared.State.{State}
+use Rattle.state.specs.Sizes.{AllBelow, Fits}
+use Rattle.machine.specs.Steps.{World, world, ran, retired}
+use Rattle.machine.specs.Entries.{runEntry, ofRan}
+use Rattle.slots.specs.Slots.{slotThere, writeEntry, readEntry, ofReadBack, resumeEntry}
+use Rattle.promises.specs.Steps.{Accepted}
+
+-- what the types say of every world that there is: the state's numbers fit, and bytes are bytes
+pub record Sized (w : World) : Type 0 where
+  pub state-fits : Fits (w .st)
+  pub mem-bytes : AllBelow (2 ^ 8) (w .mem)
+  pub row-bytes : AllBelow (2 ^ 8) (w .row)
+
+-- the lent buffers between two pieces of a run
+pub record Bench : Type 0 where
+  pub mem : List ℕ
+  pub row : List ℕ
+  pub slots : List ℕ
+
+abbrev pub bench : List ℕ → List ℕ → List ℕ → Bench
+bench m f slots = record { mem = m; row = f; slots = slots }
+
+-- a piece: the state is read back from slot k, run with budget b, and written to the slot
+abbrev pub pieceStart : ℕ → Bench → World
+pieceStart k h = world (readEntry k (h .slots) .state) (h .mem) (h .row)
+
+unfoldable pub piece : ℕ → ℕ → Bench → Bench
+piece k b h =
+    bench (runEntry b (pieceStart k h) .mem) (runEntry b (pieceStart k h) .row) (writeEntry k (runEntry b (pieceStart k h) .answer .state) (h .slots) .slots)
+
+unfoldable pub pieces : ℕ → List ℕ → Bench → Bench
+pieces k [] h = h
+pieces k (b ∷ bs) h = pieces k bs (piece k b h)
+
+-- the number that each piece answers
+unfoldable pub answers : ℕ → List ℕ → Bench → List (Answer (State × ℕ))
+answers k [] h = []
+answers k (b ∷ bs) h = ofRan (runEntry b (pieceStart k h) .answer) ∷ answers k bs (piece k b h)
+
+unfoldable pub total : List ℕ → ℕ
+total [] = 0
+total (b ∷ bs) = b + total bs
+
+-- what each piece should answer: the manual's steps of its budget, from where the piece before it ended
+unfoldable pub manual : List ℕ → World → List (Answer (State × ℕ))
+manual [] w = []
+manual (b ∷ bs) w = given (ran b w .st, retired b w) ∷ manual bs (ran b w)
+
+-- for every accepted start and every list of budgets, zeros among them, and every slot that is there: the final state, memory and row are those of the manual's steps under the whole budget, uncut; every piece is accepted and answers its own part
+abbrev pub Cut : Type 0
+Cut =
+    (k : ℕ) (bs : List ℕ) (s : State) (m f slots : List ℕ)
+    → Sized (world s m f) → Accepted (world s m f) → slotThere k slots ≡ true
+    → (ofReadBack (readEntry k (pieces k bs (bench m f (writeEntry k s slots .slots)) .slots)) ≡ given (ran (total bs) (world s m f) .st))
+    × (pieces k bs (bench m f (writeEntry k s slots .slots)) .mem ≡ ran (total bs) (world s m f) .mem)
+    × (pieces k bs (bench m f (writeEntry k s slots .slots)) .row ≡ ran (total bs) (world s m f) .row)
+    × (answers k bs (bench m f (writeEntry k s slots .slots)) ≡ manual bs (world s m f))
+
+-- the numbers retired in the pieces add up to the number retired in the uncut run
+unfoldable pub sumRetired : List ℕ → World → ℕ
+sumRetired [] w = 0
+sumRetired (b ∷ bs) w = retired b w + sumRetired bs (ran b w)
+
+abbrev pub RetiredAddsUp : Type 0
+RetiredAddsUp = (bs : List ℕ) (w : World) → sumRetired bs w ≡ retired (total bs) w
+
+-- running a slot is a piece: reading it, running, and writing it back
+abbrev pub SlotRunIsPiece : Type 0
+SlotRunIsPiece =
+    (b k : ℕ) (m f slots : List ℕ) → AllBelow (2 ^ 8) m → AllBelow (2 ^ 8) f → AllBelow (2 ^ 8) slots
+    → bench (resumeEntry b k m f slots .mem) (resumeEntry b k m f slots .row) (resumeEntry b k m f slots .slots) ≡ piece k b (bench m f slots)

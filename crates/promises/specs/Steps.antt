@@ -1,0 +1,57 @@
+-- Demand 2: each step of the code is the manual's step, and a 16-bit instruction acts as the 32-bit one it stands for, but for its length; and the paper's rules of a run.
+-- Each statement is proved in proofs/Steps.antt.
+use mathlib.Core.Path.{_≡_}
+use mathlib.Core.Bool.{true, false}
+use mathlib.Core.List.{List}
+use Prim.Native.Nat.{ℕ, _+_, _≤_}
+use lib.ListN.{length}
+use Rattle.answers.specs.Answer.{given}
+use Rattle.isa.specs.declared.Inst.{Inst}
+use Rattle.octets.specs.Bytes.{load}
+use Rattle.execute.specs.Execution.{effectOf}
+use Rattle.machine.specs.Steps.{World, effectAt, paused, stepped, ran, retired}
+use Rattle.machine.specs.Entries.{stepEntry, ofStepped, runEntry, ofRan}
+use Rattle.promises.specs.Instructions.{encodes, expands}
+use Rattle.promises.specs.Refusals.{machineRows}
+
+-- no row of the table holds
+abbrev pub Accepted : World → Type 0
+Accepted w = (n : ℕ) → machineRows w n → ⊥
+
+-- an accepted step is the manual's step: state, memory and row
+abbrev pub StepIsManual : Type 0
+StepIsManual =
+    (w : World) → Accepted w
+    → (ofStepped (stepEntry w .answer) ≡ given (stepped w .st)) × (stepEntry w .mem ≡ stepped w .mem) × (stepEntry w .row ≡ stepped w .row)
+
+-- an accepted run is so many of the manual's steps, and answers how many of them completed
+abbrev pub RunIsManual : Type 0
+RunIsManual =
+    (b : ℕ) (w : World) → Accepted w
+    → (ofRan (runEntry b w .answer) ≡ given (ran b w .st, retired b w)) × (runEntry b w .mem ≡ ran b w .mem) × (runEntry b w .row ≡ ran b w .row)
+
+-- where memory has, at pc, a halfword that stands for i, and another memory the word of i, both do what i does: once with length 2, once with 4
+abbrev pub ShortActsAsLong : Type 0
+ShortActsAsLong =
+    (i : Inst) (pc : ℕ) (x f m2 m4 : List ℕ)
+    → pc + 2 ≤ length m2 → expands (load 2 pc m2) ≡ given i
+    → pc + 4 ≤ length m4 → encodes i ≡ given (load 4 pc m4)
+    → (effectAt pc x m2 f ≡ effectOf i 2 pc x m2 f) × (effectAt pc x m4 f ≡ effectOf i 4 pc x m4 f)
+
+-- ---- the rules of a run
+
+-- it retires at most the budget, and the count grows by the number retired
+abbrev pub Counts : Type 0
+Counts = (b : ℕ) (w : World) → (retired b w ≤ b) × (ran b w .st .count ≡ w .st .count + retired b w)
+
+-- budget 0 changes nothing
+abbrev pub NoBudget : Type 0
+NoBudget = (w : World) → (ran 0 w ≡ w) × (retired 0 w ≡ 0)
+
+-- a stopped state stays stopped: stepping and running it alter nothing and retire 0
+abbrev pub StaysStopped : Type 0
+StaysStopped = (b : ℕ) (w : World) → paused w ≡ false → (stepped w ≡ w) × (ran b w ≡ w) × (retired b w ≡ 0)
+
+-- a run that began paused and has retired exactly the budget is paused
+abbrev pub PausedAtBudget : Type 0
+PausedAtBudget = (b : ℕ) (w : World) → paused w ≡ true → retired b w ≡ b → paused (ran b w) ≡ true

@@ -1,0 +1,147 @@
+-- A record's bytes, front to back: what its writer and its reader come to in each turn, and that a record reads back as its state. Assumes nothing.
+use Prim.Native.Nat.{ℕ, zero, suc, _+_, _*_, _/_, _^_, _%_, _≤_, _<_}
+use native.Mathlib.Nat.{mod-eq-of-lt}
+use native.Mathlib.Numerals.{add-one}
+use native.Mathlib.Omega.{arith}
+use mathlib.Core.Path.{_≡_, refl, sym, ap, _∙_}
+use mathlib.Core.List.{List, [], _∷_, _++_, append-assoc, append-nil}
+use lib.ListN.{length, take, drop, getD, set, length-append, length-take}
+use lib.Seq.{take-at, drop-at, take-suc, take-all, take-suc-set, drop-drop}
+use Rattle.octets.specs.Bytes.{le, ofLe, load, store}
+use Rattle.octets.proofs.Bytes.{length-le, length-store, of-le, load-add, load-one}
+use Rattle.state.specs.declared.State.{State}
+use Rattle.state.specs.Sizes.{AllBelow, Fits}
+use Rattle.records.specs.Records.{words, ofWords, recordOf, stateOf}
+
+-- ---- writing
+
+-- a store leaves what is before it, and its bytes
+take-store : (n a v : ℕ) (m : List ℕ) → a + n ≤ length m → take (a + n) (store n a v m) ≡ take a m ++ le n v
+unfolding store
+take-store n a v m h = take-at (take a m ++ le n v) (drop (a + n) m) (a + n) (simp (length-append, length-take, length-le) (omega arith))
+
+words-append : (s t : List ℕ) → words (s ++ t) ≡ words s ++ words t
+unfolding words
+words-append [] t = refl
+words-append (v ∷ s) t = rw (words-append s t) (simp append-assoc)
+
+words-one : (v : ℕ) → words (v ∷ []) ≡ le 4 v
+unfolding words
+words-one v = append-nil (le 4 v)
+
+pub write-start : (v : ℕ) (m m′ : List ℕ) → 4 ≤ length m → m′ ≡ store 4 0 v m → take 4 m′ ≡ le 4 v ++ words []
+unfolding words
+write-start v m m′ h e = rw (e, append-nil) (take-store 4 0 v m h)
+
+-- a turn of the loop that writes the words
+pub write-turn : (p x : List ℕ) (i : ℕ) (m m′ : List ℕ) → i < length x → 8 + 4 * i ≤ length m
+    → take (4 + 4 * i) m ≡ p ++ words (take i x) → m′ ≡ store 4 (4 + 4 * i) (getD x i 0) m
+    → take (4 + 4 * (i + 1)) m′ ≡ p ++ words (take (i + 1) x)
+write-turn p x i m m′ hx hm e e′ =
+    let k : 4 + 4 * (i + 1) ≡ 4 + 4 * i + 4 = omega arith in
+    rw
+    (e′, k, take-store 4 (4 + 4 * i) (getD x i 0) m (omega arith), e, add-one, take-suc x i 0 hx, words-append, words-one)
+    (simp append-assoc)
+
+-- a byte as eight: seven zeros follow it
+byte-as-eight : (v : ℕ) → v < 256 → le 8 v ≡ le 1 v ++ le 7 0
+unfolding le
+byte-as-eight v h = let e : v / 256 ≡ 0 = omega arith in ap (λ (q : ℕ). v % 256 ∷ le 7 q) e
+
+-- the two numbers that follow the words
+pub write-done : (p x : List ℕ) (r q i : ℕ) (m m₁ m₂ : List ℕ) → length x ≡ 31 → i ≡ 31 → length m ≡ 144 → q < 256
+    → take (4 + 4 * i) m ≡ p ++ words (take i x) → m₁ ≡ store 8 128 r m → m₂ ≡ store 8 136 q m₁
+    → m₂ ≡ p ++ words x ++ le 8 r ++ le 1 q ++ le 7 0
+write-done p x r q i m m₁ m₂ hx hi hm hq e e₁ e₂ =
+    let l₁ : length m₁ ≡ 144 = ap length e₁ ∙ length-store 8 128 r m (omega arith) ∙ hm in
+    let l₂ : length m₂ ≡ 144 = ap length e₂ ∙ length-store 8 136 q m₁ (omega arith) ∙ l₁ in
+    let t : take 128 m ≡ p ++ words x = rw (hi, take-all 31 x (omega arith)) at e in
+    let t₁ : take 136 m₁ ≡ p ++ words x ++ le 8 r = rw (e₁, ← t) (take-store 8 128 r m (omega arith)) in
+    let t₂ : take 144 m₂ ≡ take 136 m₁ ++ le 8 q = rw e₂ (take-store 8 136 q m₁ (omega arith)) in
+    sym (take-all 144 m₂ (omega arith)) ∙ t₂ ∙ (rw (t₁, byte-as-eight q hq) (sym (append-assoc (p ++ words x ++ le 8 r) (le 1 q) (le 7 0))))
+
+-- ---- reading
+
+load-past : (a n k : ℕ) (m : List ℕ) → load n k (drop a m) ≡ load n (a + k) m
+unfolding load
+load-past a n k m = rw drop-drop
+
+of-words-suc : (n : ℕ) (m : List ℕ) → ofWords (suc n) m ≡ ofWords n m ++ (load 4 (4 * n) m ∷ [])
+unfolding ofWords load
+of-words-suc zero m = refl
+of-words-suc (suc n) m =
+    let k : 4 * suc n ≡ 4 + 4 * n = omega arith in
+    rw (k, ← (load-past 4 4 (4 * n) m)) (ap (λ (l : List ℕ). ofLe (take 4 m) ∷ l) (of-words-suc n (drop 4 m)))
+
+-- a turn of the loop that reads the words
+pub read-turn : (m x : List ℕ) (i v : ℕ) → i < length x → take i x ≡ ofWords i (drop 4 m) → v ≡ load 4 (4 + 4 * i) m
+    → take (i + 1) (set x i v) ≡ ofWords (i + 1) (drop 4 m)
+read-turn m x i v hx e e′ = rw (add-one, take-suc-set x i v hx, of-words-suc, load-past, e, e′)
+
+-- the seven bytes that follow the stop number
+pub after-stop : (m : List ℕ) → 144 ≤ length m → getD m 136 0 < 256 → load 8 136 m / 256 ≡ load 7 137 m
+after-stop m h b = omega (arith, load-add 1 7 136 m (omega arith), load-one 136 m (omega arith))
+
+-- ---- a record reads back
+
+length-words : (x : List ℕ) → length (words x) ≡ 4 * length x
+unfolding words
+length-words [] = refl
+length-words (v ∷ x) = rw (length-append, length-le) (omega (arith, length-words x))
+
+words-back : (x r : List ℕ) → AllBelow (2 ^ 32) x → ofWords (length x) (words x ++ r) ≡ x
+unfolding words ofWords
+words-back [] r h = refl
+words-back (v ∷ x) r h =
+    rw (
+      append-assoc (le 4 v) (words x) r,
+      take-at (le 4 v) (words x ++ r) 4 (length-le 4 v),
+      drop-at (le 4 v) (words x ++ r) 4 (length-le 4 v),
+      of-le 4 v,
+      mod-eq-of-lt (h .0),
+      words-back x r (h .1),
+    )
+
+-- the number among bytes before and after it
+load-among : (n k v : ℕ) (p q : List ℕ) → length p ≡ k → load n k (p ++ le n v ++ q) ≡ v % 2 ^ (8 * n)
+unfolding load
+load-among n k v p q h =
+    rw (append-assoc p (le n v) q, drop-at p (le n v ++ q) k h, take-at (le n v) q n (length-le n v), of-le)
+
+-- a record's bytes with their lengths
+module _ (s : State) (l : length (s .x) ≡ 31) where
+  length-words-31 : length (words (s .x)) ≡ 124
+  length-words-31 = omega (arith, length-words (s .x))
+
+  pub length-record : length (recordOf s) ≡ 144
+  unfolding recordOf
+  length-record = let w = length-words-31 in simp (length-append, length-le) (omega arith)
+
+  pub rest-zero : load 7 137 (recordOf s) ≡ 0
+  unfolding recordOf
+  rest-zero =
+      let w = length-words-31 in
+      let p : List ℕ = le 4 (s .pc) ++ words (s .x) ++ le 8 (s .count) ++ le 1 (s .stop) in
+      ap (load 7 137) (sym (append-nil (p ++ le 7 0))) ∙ load-among 7 137 0 p [] (simp (length-append, length-le) (omega arith))
+
+pub read-back : (s : State) → Fits s → stateOf (recordOf s) ≡ s
+unfolding stateOf recordOf
+read-back s h =
+    let a = le 4 (s .pc) in
+    let w = words (s .x) in
+    let r = le 8 (s .count) in
+    let q = le 1 (s .stop) in
+    let z = le 7 0 in
+    let lw = length-words-31 s (h .x-length) in
+    let pc-first : a ++ w ++ r ++ q ++ z ≡ a ++ (w ++ (r ++ (q ++ z))) = simp append-assoc in
+    let count-next : a ++ w ++ r ++ q ++ z ≡ a ++ w ++ r ++ (q ++ z) = append-assoc (a ++ w ++ r) q z in
+    let pc : load 4 0 (a ++ w ++ r ++ q ++ z) ≡ s .pc =
+    ap (load 4 0) pc-first ∙ load-among 4 0 (s .pc) [] (w ++ (r ++ (q ++ z))) refl ∙ mod-eq-of-lt (h .pc-fits) in
+    let x : ofWords 31 (drop 4 (a ++ w ++ r ++ q ++ z)) ≡ s .x =
+    rw (pc-first, drop-at a (w ++ (r ++ (q ++ z))) 4 (length-le 4 (s .pc)), ← (h .x-length)) (words-back (s .x) (r ++ (q ++ z)) (h .x-fits)) in
+    let count : load 8 128 (a ++ w ++ r ++ q ++ z) ≡ s .count =
+    ap (load 8 128) count-next ∙ load-among 8 128 (s .count) (a ++ w) (q ++ z) (simp (length-append, length-le) (omega arith))
+    ∙ mod-eq-of-lt (h .count-fits) in
+    let stop : load 1 136 (a ++ w ++ r ++ q ++ z) ≡ s .stop =
+    load-among 1 136 (s .stop) (a ++ w ++ r) z (simp (length-append, length-le) (omega arith)) ∙ mod-eq-of-lt (h .stop-fits) in
+    rw (pc, x, count, stop)

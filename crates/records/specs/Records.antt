@@ -1,0 +1,29 @@
+-- A state's record of 144 bytes: 0 to 3 pc, 4 to 127 x1 to x31, 128 to 135 the retired count, 136 the stop number, 137 to 143 zero; all little-endian.
+use Prim.Native.Nat.{ℕ, zero, suc}
+use mathlib.Core.Bool.{Bool, _&&_}
+use mathlib.Core.List.{List, [], _∷_, _++_}
+use lib.ListN.{take, drop}
+use lib.Dec.{eqb}
+use Rattle.octets.specs.Bytes.{le, ofLe, load}
+use Rattle.state.specs.declared.State.{State}
+use Rattle.state.specs.States.{state, wellFormed}
+
+-- numbers as four bytes each, one after the other
+unfoldable pub words : List ℕ → List ℕ
+words [] = []
+words (v ∷ vs) = le 4 v ++ words vs
+
+-- the n numbers that so many times four bytes say
+unfoldable pub ofWords : ℕ → List ℕ → List ℕ
+ofWords zero m = []
+ofWords (suc n) m = ofLe (take 4 m) ∷ ofWords n (drop 4 m)
+
+unfoldable pub recordOf : State → List ℕ
+recordOf s = le 4 (s .pc) ++ words (s .x) ++ le 8 (s .count) ++ le 1 (s .stop) ++ le 7 0
+
+unfoldable pub stateOf : List ℕ → State
+stateOf m = state (load 4 0 m) (ofWords 31 (drop 4 m)) (load 8 128 m) (load 1 136 m)
+
+-- the record's state is well-formed, and its bytes 137 to 143 are zero
+abbrev pub recordSound : List ℕ → Bool
+recordSound m = wellFormed (stateOf m) && eqb (load 7 137 m) 0

@@ -1,0 +1,50 @@
+// A state as its record of 144 bytes, and back.
+use octets::load4;
+use octets::load8;
+use octets::store4;
+use octets::store8;
+use state::State;
+ghost use mathlib.Core.Path.{_≡_};
+ghost use lib.ListN.{length};
+ghost use Rattle.records.specs.Records.{recordOf, stateOf, recordSound};
+
+// A state into its record, and nothing beside it.
+pub fn write_record(part: &mut [u8], s: State)
+    requires { ⌜ length (now part) ≡ 144 ⌝ }
+    ensures { λ _. ⌜ now (part .exit) ≡ recordOf s ⌝ }
+{
+    let x = s.x;
+    store4(part, 0, s.pc);
+    let mut i: usize = 0;
+    while i < 31 {
+        store4(part, 4 + 4 * i, x[i]);
+        i += 1;
+    }
+    store8(part, 128, s.count);
+    // the stop number, and seven zeros after it
+    store8(part, 136, s.stop as u64);
+}
+
+pub fn read_record(part: &[u8]) -> State
+    requires { ⌜ length (now part) ≡ 144 ⌝ }
+    ensures { λ s. ⌜ s ≡ stateOf (now (part .entry)) ⌝ }
+{
+    let mut x = [0u32; 31];
+    let mut i: usize = 0;
+    while i < 31 {
+        x[i] = load4(part, 4 + 4 * i);
+        i += 1;
+    }
+    let pc = load4(part, 0);
+    let count = load8(part, 128);
+    let stop = part[136];
+    State { pc, x, count, stop }
+}
+
+// Whether the record is one that may be read: a well-formed state, and zeros after it.
+pub fn is_sound(part: &[u8]) -> bool
+    requires { ⌜ length (now part) ≡ 144 ⌝ }
+    ensures { λ r. ⌜ r ≡ recordSound (now (part .entry)) ⌝ }
+{
+    read_record(part).is_well_formed() & (load8(part, 136) / 256 == 0)
+}

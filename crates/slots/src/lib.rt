@@ -1,0 +1,99 @@
+// Slots: states kept as records of 144 bytes, one after the other in a lent buffer.
+use answers::Check;
+use answers::Refusal;
+use machine::check_board;
+use machine::run_steps;
+use records::is_sound;
+use records::read_record;
+use records::write_record;
+use state::State;
+ghost use mathlib.Core.Path.{_≡_};
+ghost use Prim.Native.Nat.{_+_, _*_, _≤_};
+ghost use lib.ListN.{length};
+ghost use Rattle.records.specs.Records.{recordOf};
+ghost use Rattle.slots.specs.Slots.{slotThere, slotSet, written, writeEntry, readEntry, sheet, resumeEntry};
+
+// What `read_slot` answers: the state, or a refusal and no state.
+pub struct ReadBack {
+    pub check: Check,
+    pub state: State,
+}
+
+// What `run_slot` answers: the number retired, or a refusal.
+pub enum Resumed {
+    Retired(u64),
+    Refused(Refusal),
+}
+
+const RECORD: usize = 144;
+
+fn is_slot(slots: &[u8], k: usize) -> bool
+    ensures { λ r. ⌜ r ≡ slotThere k (now (slots .entry)) ⌝ }
+{
+    (slots.len() % RECORD == 0) & (k < slots.len() / RECORD)
+}
+
+// The slot's bytes are lent on to a writer that knows one record.
+fn put(slots: &mut [u8], k: usize, s: State)
+    requires { ⌜ 144 * k + 144 ≤ length (now slots) ⌝ }
+    ensures { λ _. ⌜ now (slots .exit) ≡ slotSet k (recordOf s) (now (slots .entry)) ⌝ }
+{
+    let at = RECORD * k;
+    write_record(&mut slots[at..at + RECORD], s);
+}
+
+// A state into slot k. Refuses with 4 and 5.
+pub fn write_slot(slots: &mut [u8], k: usize, s: State) -> Check
+    ensures { λ r. ⌜ written r (now (slots .exit)) ≡ writeEntry k s (now (slots .entry)) ⌝ }
+{
+    if !is_slot(slots, k) {
+        return Check::Refused(Refusal::Slot);
+    }
+    if !s.is_well_formed() {
+        return Check::Refused(Refusal::State);
+    }
+    put(slots, k, s);
+    Check::Passed
+}
+
+// The state in slot k. Refuses with 4 and 5.
+pub fn read_slot(slots: &[u8], k: usize) -> ReadBack
+    ensures { λ r. ⌜ r ≡ readEntry k (now (slots .entry)) ⌝ }
+{
+    if !is_slot(slots, k) {
+        return ReadBack {
+            check: Check::Refused(Refusal::Slot),
+            state: State::none(),
+        };
+    }
+    let at = RECORD * k;
+    let part = &slots[at..at + RECORD];
+    if !is_sound(part) {
+        return ReadBack {
+            check: Check::Refused(Refusal::State),
+            state: State::none(),
+        };
+    }
+    ReadBack {
+        check: Check::Passed,
+        state: read_record(part),
+    }
+}
+
+// Reads slot k, runs it for at most budget steps and writes it back. Refuses with 1 to 5.
+pub fn run_slot(mem: &mut [u8], row: &mut [u8], slots: &mut [u8], k: usize, budget: u64) -> Resumed
+    ensures { λ r. ⌜ sheet r (now (mem .exit)) (now (row .exit)) (now (slots .exit)) ≡ resumeEntry budget k (now (mem .entry)) (now (row .entry)) (now (slots .entry)) ⌝ }
+{
+    if let Check::Refused(r) = check_board(mem, row) {
+        return Resumed::Refused(r);
+    }
+    let back = read_slot(slots, k);
+    let found = back.check;
+    if let Check::Refused(r) = found {
+        return Resumed::Refused(r);
+    }
+    let s = back.state;
+    let t = run_steps(s, mem, row, budget);
+    put(slots, k, t);
+    Resumed::Retired(t.count - s.count)
+}

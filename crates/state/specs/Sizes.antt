@@ -1,0 +1,18 @@
+-- What the types say of every state that there is: its numbers fit.
+use Prim.Native.Nat.{ℕ, _^_, _<_}
+use mathlib.Core.Path.{_≡_}
+use mathlib.Core.List.{List, [], _∷_}
+use lib.ListN.{length}
+use Rattle.state.specs.declared.State.{State}
+
+-- every number of the list is below b
+abbrev pub AllBelow : ℕ → List ℕ → Type 0
+AllBelow b [] = Unit {0}
+AllBelow b (v ∷ vs) = (v < b) × AllBelow b vs
+
+pub record Fits (s : State) : Type 0 where
+  pub pc-fits : s .pc < 2 ^ 32
+  pub x-length : length (s .x) ≡ 31
+  pub x-fits : AllBelow (2 ^ 32) (s .x)
+  pub count-fits : s .count < 2 ^ 64
+  pub stop-fits : s .stop < 2 ^ 8

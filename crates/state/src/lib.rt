@@ -1,0 +1,131 @@
+// The state of a recipe's run, by value.
+use answers::Stop;
+use isa::Reg;
+ghost use mathlib.Core.Path.{_≡_};
+ghost use Prim.Native.Nat.{_+_, _<_, _^_};
+ghost use lib.ListN.{getD, set};
+ghost use Rattle.state.specs.States.{registerOf, registerSet, written, advanced, halted, fresh, noState, wellFormed};
+
+pub struct State {
+    pub pc: u32,
+    // x1 to x31
+    pub x: [u32; 31],
+    // the steps retired
+    pub count: u64,
+    // a stop number; a state may be malformed, so any
+    pub stop: u8,
+}
+
+// An element; past the last there is 0.
+fn at(x: &[u32], i: usize) -> u32
+    ensures { λ v. ⌜ v ≡ getD (now (x .entry)) i 0 ⌝ }
+{
+    if i < x.len() {
+        return x[i];
+    }
+    0
+}
+
+// A register's value; x0 reads 0.
+pub fn read(x: &[u32; 31], r: Reg) -> u32
+    ensures { λ v. ⌜ v ≡ registerOf (now (x .entry)) r ⌝ }
+{
+    let n = r.number() as usize;
+    if n == 0 {
+        return 0;
+    }
+    at(x, n - 1)
+}
+
+// An element has v; past the last there is none to write.
+fn put(x: &mut [u32], i: usize, v: u32)
+    ensures { λ _. ⌜ now (x .exit) ≡ set (now (x .entry)) i v ⌝ }
+{
+    if i >= x.len() {
+        return;
+    }
+    x[i] = v;
+}
+
+// A register has v; a write to x0 is dropped.
+fn write(x: &mut [u32; 31], r: Reg, v: u32)
+    ensures { λ _. ⌜ now (x .exit) ≡ registerSet r v (now (x .entry)) ⌝ }
+{
+    let n = r.number() as usize;
+    if n != 0 {
+        put(x, n - 1, v);
+    }
+}
+
+impl State {
+    // The start of a recipe.
+    pub fn fresh() -> State
+        ensures { λ s. ⌜ s ≡ fresh ⌝ }
+    {
+        State {
+            pc: 0,
+            x: [0; 31],
+            count: 0,
+            stop: 0,
+        }
+    }
+
+    // What a refusal has in the place of a state: malformed, so that it is refused wherever it is used.
+    pub fn none() -> State
+        ensures { λ s. ⌜ s ≡ noState ⌝ }
+    {
+        State {
+            pc: 0,
+            x: [0; 31],
+            count: 0,
+            stop: 255,
+        }
+    }
+
+    // A register has v.
+    pub fn write(self, r: Reg, v: u32) -> State
+        ensures { λ s. ⌜ s ≡ written r v self ⌝ }
+    {
+        let mut x = self.x;
+        write(&mut x, r, v);
+        State {
+            pc: self.pc,
+            x,
+            count: self.count,
+            stop: self.stop,
+        }
+    }
+
+    // A step is complete, and the next is at pc.
+    pub fn advance(self, pc: u32) -> State
+        requires { ⌜ self .count + 1 < 2 ^ 64 ⌝ }
+        ensures { λ s. ⌜ s ≡ advanced pc self ⌝ }
+    {
+        let x = self.x;
+        State {
+            pc,
+            x,
+            count: self.count + 1,
+            stop: self.stop,
+        }
+    }
+
+    // A step stops, and changes nothing else.
+    pub fn halt(self, why: Stop) -> State
+        ensures { λ s. ⌜ s ≡ halted why self ⌝ }
+    {
+        let x = self.x;
+        State {
+            pc: self.pc,
+            x,
+            count: self.count,
+            stop: why.number(),
+        }
+    }
+
+    pub fn is_well_formed(self) -> bool
+        ensures { λ r. ⌜ r ≡ wellFormed self ⌝ }
+    {
+        (self.pc % 2 == 0) & (self.stop <= 10)
+    }
+}
