@@ -1,5 +1,5 @@
 -- The laws of steps and runs: runs add up, a stopped world stays, and the count grows by the steps that complete. Assumes nothing.
-use Prim.Native.Nat.{ℕ, zero, suc, _+_, _-_, _%_, _≤_, _<_, _^_}
+use Prim.Native.Nat.{ℕ, zero, suc, _+_, _-_, _≤_, _<_, _^_}
 use native.Mathlib.Nat.{zero-add, suc-add}
 use native.Mathlib.Omega.{arith}
 use mathlib.Core.Path.{_≡_, refl, sym, _∙_}
@@ -7,19 +7,15 @@ use mathlib.Core.Bool.{Bool, true, false, cond, _&&_}
 use mathlib.Core.List.{List}
 use lib.ListN.{length}
 use lib.Dec.{eqb, leb}
-use borrow.Author.Tests.{eqb-true, eq-eqb, ne-eqb, le-leb, lt-ltb, le-ltb}
+use borrow.Author.Tests.{eqb-true, eq-eqb, ne-eqb, lt-ltb, le-ltb}
 use Rattle.answers.specs.Checks.{unless}
 use Rattle.answers.specs.declared.Refusal.{Refusal}
 use Rattle.answers.specs.declared.Refusal.the-variants.{MemoryTooLong, RowLength, RowRecord}
 use Rattle.answers.specs.declared.Check.{Check}
 use Rattle.answers.specs.declared.Check.the-variants.{Passed, Refused}
 use Rattle.answers.specs.declared.Stop.{Stop}
-use Rattle.answers.specs.declared.Stop.the-variants.{FetchOutside, CountFull}
+use Rattle.answers.specs.declared.Stop.the-variants.{CountFull}
 use Rattle.isa.specs.declared.Reg.{Reg}
-use Rattle.isa.specs.declared.Decoded.{Decoded}
-use Rattle.isa.specs.Decoding.{decoded}
-use Rattle.isa.specs.Rvc.{expanded}
-use Rattle.octets.specs.Bytes.{load}
 use Rattle.part.specs.Row.{allKeep}
 use Rattle.alu.specs.Arithmetic.{flag}
 use Rattle.access.specs.Accesses.{done}
@@ -27,7 +23,7 @@ use Rattle.access.specs.declared.Effect.{Effect}
 use Rattle.access.specs.declared.Effect.the-variants.{Next, Halt}
 use Rattle.state.specs.declared.State.{State}
 use Rattle.state.specs.States.{written, advanced, halted}
-use Rattle.machine.specs.Steps.{World, world, fails, legal, fetchedWith, fetched, effectAt, applied, after, next, paused, stepped, ran, goesOn, completes, retired}
+use Rattle.machine.specs.Steps.{World, world, effectAt, applied, after, next, paused, stepped, ran, goesOn, completes, retired}
 use Rattle.machine.specs.Entries.{boardChecked}
 
 -- ---- runs
@@ -70,20 +66,6 @@ pub retired-add : (a b : ℕ) (w : World) → retired (a + b) w ≡ retired a w 
 unfolding ran retired
 retired-add zero b w = rw (zero-add b) (omega arith)
 retired-add (suc a) b w = rw suc-add (let h = retired-add a b (stepped w) in omega arith)
-
--- ---- fetching
-
--- two bytes
-pub fetch-short : {h : ℕ} {d : Decoded} (pc : ℕ) (m : List ℕ) → pc + 2 ≤ length m → h ≡ load 2 pc m → (h % 32 ≡ 31 → ⊥) → (h % 4 ≡ 3 → ⊥)
-    → d ≡ expanded h → fetched pc m ≡ legal d 2
-unfolding fetched fetchedWith
-fetch-short pc m w e a b d = rw (le-leb _ _ w, ← e, ne-eqb _ _ a, ne-eqb _ _ b, ← d)
-
--- low two bits 11: by the two bytes that follow
-pub fetch-long : {h : ℕ} (pc : ℕ) (m : List ℕ) → pc + 2 ≤ length m → h ≡ load 2 pc m → (h % 32 ≡ 31 → ⊥) → h % 4 ≡ 3
-    → fetched pc m ≡ cond (leb (pc + 4) (length m)) (legal (decoded (load 4 pc m)) 4) (fails FetchOutside)
-unfolding fetched fetchedWith
-fetch-long pc m w e a b = rw (le-leb _ _ w, ← e, ne-eqb _ _ a, eq-eqb _ _ b)
 
 -- ---- one step
 

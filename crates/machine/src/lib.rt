@@ -3,12 +3,9 @@ use access::Effect;
 use answers::Check;
 use answers::Refusal;
 use answers::Stop;
-use decoder::decode;
 use execute::execute;
-use expander::expand;
-use isa::Decoded;
-use octets::load2;
-use octets::load4;
+use fetch::Fetched;
+use fetch::fetch;
 use part::check_row;
 use state::State;
 ghost use mathlib.Core.Path.{_≡_};
@@ -35,32 +32,16 @@ const LONGEST_MEMORY: usize = 65536;
 
 const FULL_COUNT: u64 = 18446744073709551615;
 
-// What the instruction at pc does. Its bits are tested and decoded before anything is touched.
-pub fn effect_at(pc: u32, x: &[u32; 31], mem: &mut [u8], row: &mut [u8]) -> Effect
+// What the instruction at pc does.
+fn effect_at(pc: u32, x: &[u32; 31], mem: &mut [u8], row: &mut [u8]) -> Effect
     requires { ⌜ length (now row) ≡ 512 ⌝ }
     ensures { λ r. ⌜ done r (now (mem .exit)) (now (row .exit)) ≡ effectAt pc (now (x .entry)) (now (mem .entry)) (now (row .entry)) ⌝ }
 {
-    let at = pc as usize;
-    if at + 2 > mem.len() {
-        return Effect::Halt(Stop::FetchOutside);
+    let found = fetch(pc, mem);
+    match found {
+        Fetched::Instruction(i, len) => execute(i, len, pc, x, mem, row),
+        Fetched::Fails(why) => Effect::Halt(why),
     }
-    let half = load2(mem, at);
-    if half % 32 == 31 {
-        return Effect::Halt(Stop::IllegalInstruction);
-    }
-    if half % 4 != 3 {
-        let Decoded::Legal(i) = expand(half) else {
-            return Effect::Halt(Stop::IllegalInstruction);
-        };
-        return execute(i, 2, pc, x, mem, row);
-    }
-    if at + 4 > mem.len() {
-        return Effect::Halt(Stop::FetchOutside);
-    }
-    let Decoded::Legal(i) = decode(load4(mem, at)) else {
-        return Effect::Halt(Stop::IllegalInstruction);
-    };
-    execute(i, 4, pc, x, mem, row)
 }
 
 // At most budget steps, while none has stopped.

@@ -20,7 +20,8 @@ use Rattle.place.specs.Map.{placed}
 use Rattle.part.specs.Row.{allKeep, burnt}
 use Rattle.access.specs.Accesses.{loadedFrom, storedTo}
 use Rattle.execute.specs.Execution.{effectOf}
-use Rattle.machine.specs.Steps.{World, fetchedWith, fetched, effectFetched, next, applied, paused, stepped, ran, retired}
+use Rattle.fetch.specs.Fetching.{fetchedWith, fetched}
+use Rattle.machine.specs.Steps.{World, effectFetched, next, applied, paused, stepped, ran, retired}
 use Rattle.machine.specs.declared.Ran.{Ran}
 use Rattle.machine.specs.Entries.{Outcome, checked, runDecided, runEntry}
 use Rattle.machine.proofs.Laws.{ran-add, retired-add}

@@ -27,7 +27,10 @@ use Rattle.state.specs.States.{registerOf}
 use Rattle.access.specs.declared.Effect.the-variants.{Halt}
 use Rattle.access.specs.Accesses.{Done, done, loaded, storeWidth, storedTo}
 use Rattle.execute.specs.Execution.{effectOf}
-use Rattle.machine.specs.Steps.{World, Fetched, instruction, fails, fetched, effectFetched, effectAt, next, after, paused, stepped, goesOn}
+use Rattle.fetch.specs.declared.Fetched.{Fetched}
+use Rattle.fetch.specs.declared.Fetched.the-variants.{Instruction, Fails}
+use Rattle.fetch.specs.Fetching.{fetched}
+use Rattle.machine.specs.Steps.{World, effectFetched, effectAt, next, after, paused, stepped, goesOn}
 use Rattle.promises.specs.Burning.{inWindow, storesThere, fetchedStores, burns, Row}
 
 -- ---- one word burnt
@@ -128,8 +131,8 @@ executes (MulDiv o rd rs1 rs2) len pc x m f = stays
 
 takes-fetched : (d : Fetched) (pc : ℕ) (x m f : List ℕ) → Comes (effectFetched d pc x m f) (fetchedStores d x (length m)) f
 unfolding effectFetched
-takes-fetched (instruction i len) pc x m f = executes i len pc x m f
-takes-fetched (fails why) pc x m f = stays
+takes-fetched (Instruction i len) pc x m f = executes i len pc x m f
+takes-fetched (Fails why) pc x m f = stays
 
 pub row-step : (w : World) → RowStep (w .row) (burns w) (stepped w .row)
 unfolding stepped next

@@ -48,7 +48,10 @@ use Rattle.access.specs.declared.Effect.{Effect}
 use Rattle.access.specs.declared.Effect.the-variants.{Next, Halt}
 use Rattle.access.specs.Accesses.{Done, done, loadWidth, loadedFrom, storeWidth, storedTo}
 use Rattle.execute.specs.Execution.{evened, effectOf}
-use Rattle.machine.specs.Steps.{World, Fetched, instruction, fails, legal, fetchedWith, fetched, effectFetched, effectAt, next, applied, after, paused, stepped, ran}
+use Rattle.fetch.specs.declared.Fetched.{Fetched}
+use Rattle.fetch.specs.declared.Fetched.the-variants.{Instruction, Fails}
+use Rattle.fetch.specs.Fetching.{legal, fetchedWith, fetched}
+use Rattle.machine.specs.Steps.{World, effectFetched, effectAt, next, applied, after, paused, stepped, ran}
 use Rattle.machine.specs.Entries.{checked}
 use Rattle.promises.specs.Burning.{Row}
 use Rattle.promises.specs.Cuts.{Sized}
@@ -208,8 +211,8 @@ module _ (w : World) (g : Good w) where
 
 -- it has a word, and an even length
 abbrev Real : Fetched → Type 0
-Real (instruction i len) = (inRange i ≡ true) × (len % 2 ≡ 0)
-Real (fails why) = Unit {0}
+Real (Instruction i len) = (inRange i ≡ true) × (len % 2 ≡ 0)
+Real (Fails why) = Unit {0}
 
 legal-real : (d : Decoded) (len : ℕ) → ((i : Inst) → d ≡ Legal i → inRange i ≡ true) → len % 2 ≡ 0 → Real (legal d len)
 legal-real (Legal i) len h e = (h i refl, e)
@@ -286,8 +289,8 @@ module _ (w : World) (g : Good w) where
 
   fetched-fine : (t : Fetched) → Real t → Fine (w .mem) (effectFetched t (w .st .pc) (w .st .x) (w .mem) (w .row))
   unfolding effectFetched
-  fetched-fine (instruction i len) r = effect-fine w g i len (r .0) (r .1)
-  fetched-fine (fails why) r = leaves w g (Halt why) tt
+  fetched-fine (Instruction i len) r = effect-fine w g i len (r .0) (r .1)
+  fetched-fine (Fails why) r = leaves w g (Halt why) tt
 
   -- the count has room where an instruction is done
   good-step : Good (stepped w)

@@ -16,7 +16,8 @@ use Rattle.access.specs.declared.Effect.{Effect}
 use Rattle.access.specs.declared.Effect.the-variants.{Next, Halt}
 use Rattle.machine.specs.Steps.{World, effectFetched, next, applied, paused, stepped, ran, goesOn, completes, retired}
 use Rattle.machine.specs.Entries.{stepDecided, runDecided}
-use Rattle.machine.proofs.Laws.{fetch-short, fetch-long, step-stopped, ran-stopped, count-ran}
+use Rattle.fetch.proofs.Laws.{fetch-short, fetch-long}
+use Rattle.machine.proofs.Laws.{step-stopped, ran-stopped, count-ran}
 use Rattle.promises.specs.Steps.{StepIsManual, RunIsManual, ShortActsAsLong, Counts, NoBudget, StaysStopped, PausedAtBudget}
 use Rattle.promises.proofs.Readings.{apart, legal-is}
 use Rattle.promises.proofs.Instructions.{other-width, decode-of-encode, legal-long}

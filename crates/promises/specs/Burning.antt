@@ -19,7 +19,10 @@ use Rattle.alu.specs.Arithmetic.{sum, flag}
 use Rattle.state.specs.declared.State.{State}
 use Rattle.state.specs.States.{registerOf}
 use Rattle.access.specs.Accesses.{storeWidth}
-use Rattle.machine.specs.Steps.{World, world, Fetched, instruction, fails, fetched, completes, stepped, ran}
+use Rattle.fetch.specs.declared.Fetched.{Fetched}
+use Rattle.fetch.specs.declared.Fetched.the-variants.{Instruction, Fails}
+use Rattle.fetch.specs.Fetching.{fetched}
+use Rattle.machine.specs.Steps.{World, world, completes, stepped, ran}
 use Rattle.machine.specs.Entries.{checked, runEntry}
 
 -- ---- stores completed into the row, counted on the steps
@@ -48,8 +51,8 @@ storesThere Ebreak x size = false
 storesThere (MulDiv o rd rs1 rs2) x size = false
 
 abbrev pub fetchedStores : Fetched → List ℕ → ℕ → Bool
-fetchedStores (instruction i len) x size = storesThere i x size
-fetchedStores (fails why) x size = false
+fetchedStores (Instruction i len) x size = storesThere i x size
+fetchedStores (Fails why) x size = false
 
 -- the next step completes a store into the row
 abbrev pub burns : World → Bool

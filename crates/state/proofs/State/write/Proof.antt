@@ -1,5 +1,4 @@
 -- The registers are written, and the rest is put together again. Assumes nothing.
-use borrow.Author.Needs.{needs}
 use Rattle.state.proofs.State.write.Statement.{statement}
 use Rattle.state.proofs.State.write.Tie as tie
 
