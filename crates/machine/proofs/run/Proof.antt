@@ -23,7 +23,7 @@ sub-t19 : tie.Need-sub-t19
 sub-t19 c =
     let at = c .before .before .before .before .before .before .before .before .before .before .before .before .before .before .before .before .args in
     let w = world (at .s) (at .mem .now) (at .row .now) in
-    let h = ap (λ (v : World). v .st .count) (c .before .before .before .before .before .before .run-steps .ensures) ∙ count-ran (at .budget) w in
+    let h = ap (λ (v : World). v .st .count) (c .before .before .before .before .before .before .run-steps .ensures) ∙ count-ran _ w in
     omega arith
 
 returns-2 : tie.Need-returns-2

@@ -3,7 +3,7 @@ use Prim.Native.Nat.{_+_, _≤_}
 use native.Mathlib.Omega.{arith}
 use borrow.Author.Needs.{needs}
 use borrow.Author.Tests.{le-leb, not-true, not-false}
-use Rattle.place.specs.Map.{windowStart, windowEnd, placed}
+use Rattle.place.specs.Map.{windowStart, placed}
 use Rattle.place.proofs.Placed.{bytes-le, in-window, beyond-memory}
 use Rattle.place.proofs.place_of.Statement.{statement}
 use Rattle.place.proofs.place_of.Tie as tie
@@ -28,7 +28,7 @@ returns-2 c =
 
 sub-t12 : tie.Need-sub-t12
 sub-t12 c =
-    in-window (c .before .is-word .result) windowStart (c .before .before .before .before .before .before .args .address) windowEnd (c .if3 .taken) .0
+    in-window (c .before .is-word .result) windowStart (c .before .before .before .before .before .before .args .address) _ (c .if3 .taken) .0
 
 returns-3 : tie.Need-returns-3
 returns-3 c =
