@@ -8,7 +8,7 @@ use mathlib.Core.List.{List}
 use lib.ListN.{length}
 use lib.Dec.{eqb, leb}
 use borrow.Author.Tests.{eqb-true, eq-eqb, ne-eqb, lt-ltb, le-ltb}
-use Rattle.answers.specs.Checks.{unless}
+use Rattle.answers.proofs.Checks.{passed, refused-on, passed-on}
 use Rattle.answers.specs.declared.Refusal.{Refusal}
 use Rattle.answers.specs.declared.Refusal.the-variants.{MemoryTooLong, RowLength, RowRecord}
 use Rattle.answers.specs.declared.Check.{Check}
@@ -108,31 +108,12 @@ ran-full n w p h k =
 -- ---- refusals
 
 -- three tests, and those that follow: where one of the three refuses, the rest does not matter; where all pass, the rest decides
-refused-early : (a b c : Bool) (p q s : Refusal) {r : Refusal} (rest : Check) → unless a p (unless b q (unless c s Passed)) ≡ Refused r
-    → unless a p (unless b q (unless c s rest)) ≡ Refused r
-refused-early true true true p q s rest e = cc
-refused-early true true false p q s rest e = e
-refused-early true false c p q s rest e = e
-refused-early false b c p q s rest e = e
-
-passed-early : (a b c : Bool) (p q s : Refusal) (rest : Check) → unless a p (unless b q (unless c s Passed)) ≡ Passed
-    → unless a p (unless b q (unless c s rest)) ≡ rest
-passed-early true true true p q s rest e = refl
-passed-early true true false p q s rest e = cc
-passed-early true false c p q s rest e = cc
-passed-early false b c p q s rest e = cc
-
-passed-second : (a b : Bool) (p q : Refusal) (rest : Check) → unless a p (unless b q rest) ≡ Passed → b ≡ true
-passed-second a true p q rest e = refl
-passed-second true false p q rest e = cc
-passed-second false false p q rest e = cc
-
 module _ (m f : List ℕ) (rest : Check) where
   pub board-refused : {r : Refusal} → boardChecked m f Passed ≡ Refused r → boardChecked m f rest ≡ Refused r
-  board-refused e = refused-early (leb (length m) 65536) (eqb (length f) 512) (allKeep 64 f) MemoryTooLong RowLength RowRecord rest e
+  board-refused e = refused-on (leb (length m) 65536) MemoryTooLong (refused-on (eqb (length f) 512) RowLength (refused-on (allKeep 64 f) RowRecord (λ z. cc))) e
 
   pub board-passed : boardChecked m f Passed ≡ Passed → boardChecked m f rest ≡ rest
-  board-passed e = passed-early (leb (length m) 65536) (eqb (length f) 512) (allKeep 64 f) MemoryTooLong RowLength RowRecord rest e
+  board-passed e = passed-on (leb (length m) 65536) MemoryTooLong (passed-on (eqb (length f) 512) RowLength (passed-on (allKeep 64 f) RowRecord (λ z. refl))) e
 
   pub board-length : boardChecked m f rest ≡ Passed → length f ≡ 512
-  board-length e = eqb-true _ _ (passed-second (leb (length m) 65536) (eqb (length f) 512) MemoryTooLong RowLength (unless (allKeep 64 f) RowRecord rest) e)
+  board-length e = eqb-true _ _ (passed (eqb (length f) 512) RowLength _ (passed (leb (length m) 65536) MemoryTooLong _ e .1) .0)

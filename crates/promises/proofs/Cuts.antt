@@ -3,13 +3,13 @@
 use mathlib.Core.Path.{_≡_, refl, sym, ap, _∙_}
 use mathlib.Core.Bool.{Bool, true, false, and-eq-true-iff}
 use mathlib.Core.List.{List, [], _∷_}
-use Prim.Native.Nat.{ℕ, _+_, _*_, _/_, _%_, _^_, _≤_, _<_}
+use Prim.Native.Nat.{ℕ, _+_, _*_, _^_}
 use native.Mathlib.Omega.{arith}
-use lib.ListN.{length, drop}
+use lib.ListN.{length, take, drop}
 use lib.Dec.{eqb, leb}
-use borrow.Author.Tests.{ltb-true}
 use Rattle.answers.specs.Answer.{Answer, given}
 use Rattle.answers.specs.Checks.{unless}
+use Rattle.answers.proofs.Checks.{passed}
 use Rattle.answers.specs.declared.Refusal.{Refusal}
 use Rattle.answers.specs.declared.Refusal.the-variants as R
 use Rattle.answers.specs.declared.Check.{Check}
@@ -20,16 +20,16 @@ use Rattle.state.specs.declared.State.{State}
 use Rattle.state.specs.States.{noState, wellFormed}
 use Rattle.state.specs.Sizes.{AllBelow}
 use Rattle.machine.specs.Steps.{World, world, ran, retired}
-use Rattle.machine.specs.Entries.{boardChecked, checked, runGiven, runDecided, runEntry, ofRan}
+use Rattle.machine.specs.Entries.{boardChecked, stateChecked, checked, runGiven, runDecided, runEntry, ofRan}
 use Rattle.machine.proofs.Laws.{ran-add, retired-add}
 use Rattle.records.specs.Records.{recordOf, stateOf, recordSound}
 use Rattle.records.proofs.Records.{length-record, rest-zero, read-back}
-use Rattle.slots.specs.Slots.{slotThere, slotAt, slotSet, writeDecided, writeEntry, readChecked, readDecided, readEntry, ofReadBack, slotWorld, resumeChecked, resumeDecided}
-use Rattle.slots.proofs.Slots.{slot-set-at, slot-set-length}
-use Rattle.promises.specs.Cuts.{Sized, Bench, bench, pieceStart, piece, pieces, answers, total, manual, Cut, sumRetired, RetiredAddsUp, SlotRunIsPiece}
+use Rattle.slots.specs.Slots.{slotThere, slotAt, slotSet, writeChecked, writeDecided, writeEntry, readChecked, readDecided, readEntry, ofReadBack, slotWorld, resumeChecked, resumeDecided}
+use Rattle.slots.proofs.Slots.{there-fits, slot-set-at, slot-set-length, take-before, drop-after}
+use Rattle.promises.specs.Cuts.{Sized, Bench, bench, pieceStart, piece, pieces, answers, total, manual, Cut, sumRetired, RetiredAddsUp, SlotRunIsPiece, WritesItsSlot}
 use Rattle.promises.proofs.Bounds.{below-take, below-drop, read-fits}
 use Rattle.promises.proofs.Refusals.{accepted-passes}
-use Rattle.promises.proofs.Invariants.{Good, test, good-passes, passes-good, good-ran}
+use Rattle.promises.proofs.Invariants.{Good, good-passes, passes-good, good-ran}
 
 -- ---- one piece
 
@@ -67,14 +67,10 @@ record Holds (k : ℕ) (s : State) (slots : List ℕ) : Type 0 where
   there : slotThere k slots ≡ true
   held : slotAt k slots ≡ recordOf s
 
--- a slot that is there lies within
-within : (k : ℕ) (slots : List ℕ) → slotThere k slots ≡ true → 144 * k + 144 ≤ length slots
-within k slots t = let l : k < length slots / 144 = ltb-true _ _ (and-eq-true-iff (eqb (length slots % 144) 0) _ .0 t .1) in omega arith
-
 holds-set : (k : ℕ) (s : State) (slots : List ℕ) → length (s .x) ≡ 31 → slotThere k slots ≡ true → Holds k s (slotSet k (recordOf s) slots)
 holds-set k s slots l t =
     let r = length-record s l in
-    let i = within k slots t in
+    let i = there-fits k slots t in
     record { there = rw (slot-set-length k (recordOf s) slots r i) t; held = slot-set-at k (recordOf s) slots r i }
 
 read-held : (k : ℕ) (s : State) (slots : List ℕ) {m f : List ℕ} → Holds k s slots → Good (world s m f) → readEntry k slots ≡ record { check = Passed; state = s }
@@ -160,8 +156,8 @@ module _ (b k : ℕ) (m f slots : List ℕ) where
   unfolding readDecided
   read mb fb sb e =
       let part : List ℕ = slotAt k slots in
-      let t = test (slotThere k slots) R.Slot _ e in
-      let formed : wellFormed (stateOf part) ≡ true = and-eq-true-iff _ (eqb (load 7 137 part) 0) .0 (test (recordSound part) R.State Passed (t .1) .0) .0 in
+      let t = passed (slotThere k slots) R.Slot _ e in
+      let formed : wellFormed (stateOf part) ≡ true = and-eq-true-iff _ (eqb (load 7 137 part) 0) .0 (passed (recordSound part) R.State Passed (t .1) .0) .0 in
       let a : pieceStart k lent ≡ slotWorld k m f slots = ap (λ c. world (readDecided c k slots .state) m f) e in
       let c : checked (slotWorld k m f slots) ≡ boardChecked m f Passed = ap (λ q. boardChecked m f (unless q R.State Passed)) formed in
       let z : Sized (slotWorld k m f slots) = record {
@@ -182,3 +178,19 @@ slot-run-is-piece b k m f slots mb fb sb = go (readChecked k slots) refl
     go : (c : Check) → readChecked k slots ≡ c → Same b k m f slots
     go Passed e = read b k m f slots mb fb sb e
     go (Refused r) e = unread b k m f slots r e
+
+-- ---- one slot written
+
+pub writes-its-slot : WritesItsSlot
+unfolding writeDecided
+writes-its-slot k s slots f = go (writeChecked k s slots) refl
+  where
+    go : (c : Check) → writeChecked k s slots ≡ c → writeDecided c k s slots .check ≡ Passed
+        → (take (144 * k) (writeDecided c k s slots .slots) ≡ take (144 * k) slots)
+        × (slotAt k (writeDecided c k s slots .slots) ≡ recordOf s)
+        × (drop (144 * k + 144) (writeDecided c k s slots .slots) ≡ drop (144 * k + 144) slots)
+    go Passed h e =
+        let i = there-fits k slots (passed (slotThere k slots) R.Slot (stateChecked s) h .0) in
+        let l = length-record s (f .x-length) in
+        (take-before k (recordOf s) slots l i, slot-set-at k (recordOf s) slots l i, drop-after k (recordOf s) slots l i)
+    go (Refused r) h e = let z : _≡_ {A = ℕ} 0 1 = cc in absurd (omega arith)

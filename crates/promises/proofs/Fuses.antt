@@ -148,10 +148,3 @@ row-step w = go (paused w) (ltb (w .st .count) (2 ^ 64 - 1))
     go false c = stays
     go true true = takes-fetched (fetched (w .st .pc) (w .mem)) (w .st .pc) (w .st .x) (w .mem) (w .row)
     go true false = stays
-
-step-row : {f g : List ℕ} {b : Bool} → RowStep f b g → Row f → Row g
-step-row stays r = r
-step-row (burning k v h z) r = row-burnt k v _ h r
-
-pub row-kept : (w : World) → Row (w .row) → Row (stepped w .row)
-row-kept w r = step-row (row-step w) r

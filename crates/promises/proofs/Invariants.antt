@@ -14,10 +14,8 @@ use borrow.Author.Tests.{eqb-true, ltb-true, eq-eqb, le-leb, leb-true}
 use Rattle.answers.specs.declared.Stop.{Stop}
 use Rattle.answers.specs.declared.Stop.the-variants as S
 use Rattle.answers.specs.Stops.{stopNumber}
-use Rattle.answers.specs.Checks.{unless}
-use Rattle.answers.specs.declared.Check.{Check}
+use Rattle.answers.proofs.Checks.{passed}
 use Rattle.answers.specs.declared.Check.the-variants.{Passed}
-use Rattle.answers.specs.declared.Refusal.{Refusal}
 use Rattle.answers.specs.declared.Refusal.the-variants as R
 use Rattle.isa.specs.declared.Reg.{Reg}
 use Rattle.isa.specs.declared.LoadOp.{LoadOp}
@@ -74,17 +72,12 @@ pub good-passes : (w : World) → Good w → checked w ≡ Passed
 good-passes w g =
     rw (le-leb (length (w .mem)) 65536 (g .mem-short), eq-eqb (length (w .row)) 512 (g .row-sound .0), g .row-sound .1, g .formed)
 
--- a chain of tests that passed: the first holds, and the others passed
-pub test : (b : Bool) (r : Refusal) (rest : Check) → unless b r rest ≡ Passed → (b ≡ true) × (rest ≡ Passed)
-test true r rest e = (refl, e)
-test false r rest e = (cc, cc)
-
 pub passes-good : (w : World) → Sized w → checked w ≡ Passed → Good w
 passes-good w z e =
-    let m = test (leb (length (w .mem)) 65536) R.MemoryTooLong _ e in
-    let l = test (eqb (length (w .row)) 512) R.RowLength _ (m .1) in
-    let r = test (allKeep 64 (w .row)) R.RowRecord _ (l .1) in
-    let s = test (wellFormed (w .st)) R.State Passed (r .1) in
+    let m = passed (leb (length (w .mem)) 65536) R.MemoryTooLong _ e in
+    let l = passed (eqb (length (w .row)) 512) R.RowLength _ (m .1) in
+    let r = passed (allKeep 64 (w .row)) R.RowRecord _ (l .1) in
+    let s = passed (wellFormed (w .st)) R.State Passed (r .1) in
     record {
       state-fits = z .state-fits;
       formed = s .0;

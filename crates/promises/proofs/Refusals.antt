@@ -111,13 +111,6 @@ accepted-passes w a = go (checked w) (λ n e. a n (machine-says w n .0 e))
     go Passed f = refl
     go (Refused r) f = absurd (f (numberOf r) refl)
 
-pub passes-accepted : (w : World) → checked w ≡ Passed → Accepted w
-passes-accepted w e n h = go (checked w) e (machine-says w n .1 h)
-  where
-    go : (c : Check) → c ≡ Passed → Refuses c n → ⊥
-    go Passed e r = r
-    go (Refused r) e q = let z : _≡_ {A = ℕ} 0 1 = cc in omega arith
-
 -- ---- the answers
 
 exactly : {A : Type 0} {x : Answer A} {rows : ℕ → Type 0} (c : Check) (a : A) → x ≡ ofCheck c a → Says c rows

@@ -3,13 +3,16 @@
 use mathlib.Core.Path.{_≡_}
 use mathlib.Core.Bool.{true}
 use mathlib.Core.List.{List, [], _∷_}
-use Prim.Native.Nat.{ℕ, _+_, _^_}
+use Prim.Native.Nat.{ℕ, _+_, _*_, _^_}
+use lib.ListN.{take, drop}
 use Rattle.answers.specs.Answer.{Answer, given}
+use Rattle.answers.specs.declared.Check.the-variants.{Passed}
 use Rattle.state.specs.declared.State.{State}
 use Rattle.state.specs.Sizes.{AllBelow, Fits}
 use Rattle.machine.specs.Steps.{World, world, ran, retired}
 use Rattle.machine.specs.Entries.{runEntry, ofRan}
-use Rattle.slots.specs.Slots.{slotThere, writeEntry, readEntry, ofReadBack, resumeEntry}
+use Rattle.records.specs.Records.{recordOf}
+use Rattle.slots.specs.Slots.{slotThere, slotAt, writeEntry, readEntry, ofReadBack, resumeEntry}
 use Rattle.promises.specs.Steps.{Accepted}
 
 -- what the types say of every world that there is: the state's numbers fit, and bytes are bytes
@@ -76,3 +79,11 @@ abbrev pub SlotRunIsPiece : Type 0
 SlotRunIsPiece =
     (b k : ℕ) (m f slots : List ℕ) → AllBelow (2 ^ 8) m → AllBelow (2 ^ 8) f → AllBelow (2 ^ 8) slots
     → bench (resumeEntry b k m f slots .mem) (resumeEntry b k m f slots .row) (resumeEntry b k m f slots .slots) ≡ piece k b (bench m f slots)
+
+-- writing slot k changes only bytes 144k to 144k + 143, which are then the state's record
+abbrev pub WritesItsSlot : Type 0
+WritesItsSlot =
+    (k : ℕ) (s : State) (slots : List ℕ) → Fits s → writeEntry k s slots .check ≡ Passed
+    → (take (144 * k) (writeEntry k s slots .slots) ≡ take (144 * k) slots)
+    × (slotAt k (writeEntry k s slots .slots) ≡ recordOf s)
+    × (drop (144 * k + 144) (writeEntry k s slots .slots) ≡ drop (144 * k + 144) slots)

@@ -9,7 +9,7 @@ use lib.Seq.{length-take-le, take-at, drop-at}
 use lib.Dec.{eqb}
 use borrow.Author.Tests.{ltb-true, not-false}
 use Rattle.word.proofs.Bools.{and-right, is-true, holds}
-use Rattle.answers.specs.Checks.{unless}
+use Rattle.answers.proofs.Checks.{passed}
 use Rattle.answers.specs.declared.Refusal.{Refusal}
 use Rattle.answers.specs.declared.Refusal.the-variants as R
 use Rattle.answers.specs.declared.Check.{Check}
@@ -17,7 +17,7 @@ use Rattle.answers.specs.declared.Check.the-variants.{Passed, Refused}
 use Rattle.state.specs.declared.State.{State}
 use Rattle.machine.specs.Steps.{World, world, ran, retired}
 use Rattle.machine.proofs.Laws.{count-ran}
-use Rattle.records.specs.Records.{recordOf, stateOf, recordSound}
+use Rattle.records.specs.Records.{recordOf, stateOf}
 use Rattle.slots.specs.declared.ReadBack.{ReadBack}
 use Rattle.slots.specs.declared.Resumed.the-variants as A
 use Rattle.slots.specs.Slots.{slotThere, slotAt, slotSet, readChecked, readDecided, readEntry, sheet, resumeChecked, resumeDecided, resumeEntry}
@@ -26,7 +26,7 @@ use Rattle.slots.specs.Slots.{slotThere, slotAt, slotSet, readChecked, r
 pub one-record : (k : ℕ) → 144 * k + 144 - 144 * k ≡ 144
 one-record k = omega arith
 
-there-fits : (k : ℕ) (slots : List ℕ) → slotThere k slots ≡ true → 144 * k + 144 ≤ length slots
+pub there-fits : (k : ℕ) (slots : List ℕ) → slotThere k slots ≡ true → 144 * k + 144 ≤ length slots
 there-fits k slots h =
     let less = ltb-true k (length slots / 144) (is-true _ (and-right (eqb (length slots % 144) 0) _ (holds _ h))) in
     omega arith
@@ -50,16 +50,12 @@ module _ (k : ℕ) (bytes slots : List ℕ) (lb : length bytes ≡ 144) (ls : 14
   pub slot-set-length : length (slotSet k bytes slots) ≡ length slots
   slot-set-length = simp (length-append, length-take, length-drop) (omega arith)
 
-  take-before : take (144 * k) (slotSet k bytes slots) ≡ take (144 * k) slots
+  pub take-before : take (144 * k) (slotSet k bytes slots) ≡ take (144 * k) slots
   take-before = rw apart (take-at (take (144 * k) slots) (bytes ++ drop (144 * k + 144) slots) (144 * k) before)
 
-  drop-after : drop (144 * k + 144) (slotSet k bytes slots) ≡ drop (144 * k + 144) slots
+  pub drop-after : drop (144 * k + 144) (slotSet k bytes slots) ≡ drop (144 * k + 144) slots
   drop-after =
       drop-at (take (144 * k) slots ++ bytes) (drop (144 * k + 144) slots) (144 * k + 144) (rw length-append (let b = before in omega arith))
-
-pub slot-set-again : (k : ℕ) (b₁ b₂ slots : List ℕ) → length b₁ ≡ 144 → length b₂ ≡ 144 → 144 * k + 144 ≤ length slots
-    → slotSet k b₂ (slotSet k b₁ slots) ≡ slotSet k b₂ slots
-slot-set-again k b₁ b₂ slots l₁ l₂ h = rw (take-before k b₁ slots l₁ h, drop-after k b₁ slots l₁ h)
 
 -- ---- what reading slot k answers
 
@@ -67,10 +63,6 @@ decided-check : (d : Check) (k : ℕ) (slots : List ℕ) → readDecided d k slo
 unfolding readDecided
 decided-check Passed k slots = refl
 decided-check (Refused r) k slots = refl
-
-passed-first : (a : Bool) (p : Refusal) (rest : Check) → unless a p rest ≡ Passed → a ≡ true
-passed-first true p rest e = refl
-passed-first false p rest e = cc
 
 module _ (k : ℕ) (slots : List ℕ) {b : ReadBack} (e : b ≡ readEntry k slots) where
   pub read-says : {d : Check} → b .check ≡ d → readChecked k slots ≡ d
@@ -81,7 +73,7 @@ module _ (k : ℕ) (slots : List ℕ) {b : ReadBack} (e : b ≡ readEntry k slot
   read-state h = rw (e, read-says h)
 
   pub read-fits : b .check ≡ Passed → 144 * k + 144 ≤ length slots
-  read-fits h = there-fits k slots (passed-first (slotThere k slots) R.Slot (unless (recordSound (slotAt k slots)) R.State Passed) (read-says h))
+  read-fits h = there-fits k slots (passed (slotThere k slots) R.Slot _ (read-says h) .0)
 
 -- ---- what running slot k answers
 

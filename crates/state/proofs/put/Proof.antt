@@ -1,12 +1,12 @@
 -- A write past the last element leaves them as they are. Assumes nothing.
 use mathlib.Core.Path.{sym}
 use borrow.Author.Needs.{needs}
-use Rattle.state.proofs.Registers.{set-past}
+use lib.Seq.{set-out}
 use Rattle.state.proofs.put.Statement.{statement}
 use Rattle.state.proofs.put.Tie as tie
 
 returns : tie.Need-returns
-returns c = let at = c .before .args in sym (set-past (at .x .now) (at .i) (at .v) (c .if1 .taken))
+returns c = let at = c .before .args in sym (set-out (at .x .now) (at .i) (at .v) (c .if1 .taken))
 
 pub put-spec : {M : Type 1} → statement M
 put-spec =
