@@ -2,7 +2,7 @@
 use Prim.Native.Nat.{ℕ, zero, suc, _+_, _-_, _≤_, _<_, _^_}
 use native.Mathlib.Nat.{zero-add, suc-add}
 use native.Mathlib.Omega.{arith}
-use mathlib.Core.Path.{_≡_, refl, sym, _∙_}
+use mathlib.Core.Path.{_≡_, refl, sym, ap, _∙_}
 use mathlib.Core.Bool.{Bool, true, false, cond, _&&_}
 use mathlib.Core.List.{List}
 use lib.ListN.{length}
@@ -61,6 +61,11 @@ pub count-ran : (n : ℕ) (w : World) → ran n w .st .count ≡ w .st .count + 
 unfolding ran retired
 count-ran zero w = omega arith
 count-ran (suc n) w = let h = count-ran n (stepped w) in let k = count-stepped w in omega arith
+
+-- a run that ended in the state t
+pub count-grew : (budget : ℕ) (s : State) (m f : List ℕ) {t : State} {m′ f′ : List ℕ} → world t m′ f′ ≡ ran budget (world s m f)
+    → t .count ≡ s .count + retired budget (world s m f)
+count-grew budget s m f e = ap (λ (w : World). w .st .count) e ∙ count-ran budget (world s m f)
 
 pub retired-add : (a b : ℕ) (w : World) → retired (a + b) w ≡ retired a w + retired b (ran a w)
 unfolding ran retired

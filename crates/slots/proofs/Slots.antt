@@ -1,7 +1,7 @@
 -- Slots: bytes set in a slot are there, the buffer keeps its length, and the later of two settings stands. Assumes nothing.
 use Prim.Native.Nat.{ℕ, _+_, _-_, _*_, _/_, _%_, _≤_}
 use native.Mathlib.Omega.{arith}
-use mathlib.Core.Path.{_≡_, refl, sym, ap, _∙_}
+use mathlib.Core.Path.{_≡_, refl, sym, _∙_}
 use mathlib.Core.Bool.{Bool, true, false, not}
 use mathlib.Core.List.{List, _++_, append-assoc}
 use lib.ListN.{length, take, drop, length-append, length-take, length-drop}
@@ -15,8 +15,8 @@ use Rattle.answers.specs.declared.Refusal.the-variants as R
 use Rattle.answers.specs.declared.Check.{Check}
 use Rattle.answers.specs.declared.Check.the-variants.{Passed, Refused}
 use Rattle.state.specs.declared.State.{State}
-use Rattle.machine.specs.Steps.{World, world, ran, retired}
-use Rattle.machine.proofs.Laws.{count-ran}
+use Rattle.machine.specs.Steps.{world, ran, retired}
+use Rattle.machine.proofs.Laws.{count-grew}
 use Rattle.records.specs.Records.{recordOf, stateOf}
 use Rattle.slots.specs.declared.ReadBack.{ReadBack}
 use Rattle.slots.specs.declared.Resumed.the-variants as A
@@ -81,10 +81,6 @@ pub resume-refused : (budget k : ℕ) (m f slots : List ℕ) {r : Refusal} → r
     → sheet (A.Refused r) m f slots ≡ resumeEntry budget k m f slots
 unfolding resumeDecided
 resume-refused budget k m f slots e = rw e
-
-pub count-grew : (budget : ℕ) (s : State) (m f : List ℕ) {t : State} {m′ f′ : List ℕ} → world t m′ f′ ≡ ran budget (world s m f)
-    → t .count ≡ s .count + retired budget (world s m f)
-count-grew budget s m f e = ap (λ (w : World). w .st .count) e ∙ count-ran budget (world s m f)
 
 pub resume-given : (budget k : ℕ) (m f slots : List ℕ) {s t : State} {m′ f′ slots′ : List ℕ}
     → resumeChecked k m f slots ≡ Passed → s ≡ stateOf (slotAt k slots) → world t m′ f′ ≡ ran budget (world s m f)

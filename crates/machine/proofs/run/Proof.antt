@@ -1,11 +1,11 @@
 -- A refusal decides; else the count grows by what the run retires. Assumes nothing.
 use native.Mathlib.Omega.{arith}
-use mathlib.Core.Path.{_≡_, sym, ap, _∙_}
+use mathlib.Core.Path.{_≡_, sym, _∙_}
 use Prim.Native.Nat.{_-_}
 use borrow.Author.Needs.{needs}
-use Rattle.machine.specs.Steps.{World, world, retired}
+use Rattle.machine.specs.Steps.{world, retired}
 use Rattle.machine.specs.Entries.{stateChecked, runDecided}
-use Rattle.machine.proofs.Laws.{board-length, count-ran}
+use Rattle.machine.proofs.Laws.{board-length, count-grew}
 use Rattle.machine.proofs.run.Statement.{statement}
 use Rattle.machine.proofs.run.Tie as tie
 
@@ -22,16 +22,14 @@ run-steps-requires c κs =
 sub-t19 : tie.Need-sub-t19
 sub-t19 c =
     let at = c .before .before .before .before .before .before .before .before .before .before .before .before .before .before .before .before .args in
-    let w = world (at .s) (at .mem .now) (at .row .now) in
-    let h = ap (λ (v : World). v .st .count) (c .before .before .before .before .before .before .run-steps .ensures) ∙ count-ran _ w in
-    omega arith
+    omega (arith, count-grew _ (at .s) (at .mem .now) (at .row .now) (c .before .before .before .before .before .before .run-steps .ensures))
 
 returns-2 : tie.Need-returns-2
 unfolding runDecided
 returns-2 c =
     let at = c .before .before .before .before .before .before .before .before .before .before .before .before .before .before .before .before .args in
     let w = world (at .s) (at .mem .now) (at .row .now) in
-    let h = ap (λ (v : World). v .st .count) (c .before .before .before .before .before .before .run-steps .ensures) ∙ count-ran (at .budget) w in
+    let h = count-grew (at .budget) (at .s) (at .mem .now) (at .row .now) (c .before .before .before .before .before .before .run-steps .ensures) in
     let k : c .before .before .before .before .before .before .run-steps .result .count - at .s .count ≡ retired (at .budget) w = omega arith in
     rw (k, ← c .before .before .before .before .before .before .before .before .before .before .before .check .ensures, c .before .before .before .before .before .before .before .before .before .enum-told .given .1, ← c .before .before .before .before .before .before .run-steps .ensures)
 

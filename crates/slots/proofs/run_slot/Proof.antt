@@ -3,9 +3,9 @@ use native.Mathlib.Omega.{arith}
 use mathlib.Core.Path.{sym, _∙_}
 use borrow.Author.Needs.{needs}
 use Rattle.answers.specs.declared.Check.the-variants.{Passed}
-use Rattle.machine.proofs.Laws.{board-refused, board-passed, board-length}
+use Rattle.machine.proofs.Laws.{board-refused, board-passed, board-length, count-grew}
 use Rattle.slots.specs.Slots.{readChecked}
-use Rattle.slots.proofs.Slots.{read-says, read-state, read-fits, resume-refused, count-grew, resume-given}
+use Rattle.slots.proofs.Slots.{read-says, read-state, read-fits, resume-refused, resume-given}
 use Rattle.slots.proofs.run_slot.Statement.{statement}
 use Rattle.slots.proofs.run_slot.Tie as tie
 
