@@ -42,7 +42,7 @@ unfoldable pub pieces : ℕ → List ℕ → Bench → Bench
 pieces k [] h = h
 pieces k (b ∷ bs) h = pieces k bs (piece k b h)
 
--- the number that each piece answers
+-- what each piece answers: its last state and the number retired
 unfoldable pub answers : ℕ → List ℕ → Bench → List (Answer (State × ℕ))
 answers k [] h = []
 answers k (b ∷ bs) h = ofRan (runEntry b (pieceStart k h) .answer) ∷ answers k bs (piece k b h)
