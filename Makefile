@@ -1,9 +1,9 @@
-# make demo: proves what the two programs need, and runs them; make test: the gate
+# make demo: proves what the three programs need, and runs them; make test: the gate
 .PHONY: demo test
 
 demo:
-	rt check vectors cards
-	@printf 'The programs vectors and cards wrote:\n'; sed 's/^/    /' target/log/vectors.stdout target/log/cards.stdout
+	rt check list vectors cards
+	@printf 'The programs list, vectors and cards wrote:\n'; sed 's/^/    /' target/log/list.stdout target/log/vectors.stdout target/log/cards.stdout
 
 test:
 	bash .ci/run

@@ -7,8 +7,8 @@ use mathlib.Core.Path.{_≡_, refl, sym, ap}
 use mathlib.Core.Logic.{_⊎_, inl, inr}
 use mathlib.Core.List.{List, [], _∷_, _++_, append-assoc}
 use lib.ListN.{length, take, drop, getD, set, length-append, length-take, length-drop, take-append-drop}
-use lib.Seq.{take-append-le, drop-append-le, take-add, drop-drop, length-take-le, take-at, drop-at, drop-cons, set-split, append-snoc}
-use lib.Pow.{pow-add, shr-shr, field, mod-mod-pow, mod-pow-add}
+use lib.Seq.{take-append-le, drop-append-le, take-add, drop-drop, length-take-le, take-at, drop-at, drop-cons, set-split, append-snoc, getD-drop}
+use lib.Pow.{pow-pos, pow-add, shr-shr, field, mod-mod-pow, mod-pow-add}
 use Rattle.octets.specs.Bytes.{le, ofLe, load, store}
 
 eight : (n : ℕ) → 8 * suc n ≡ 8 * n + 8
@@ -118,3 +118,17 @@ load-store-other n a v k b m (inr h) l =
     let s : length p ≡ a + n = simp (length-append, length-take, length-le) (omega arith) in
     let d : a + n + (b - (a + n)) ≡ b = omega arith in
     rw (← d, ← (drop-drop (b - (a + n)) (a + n) (p ++ drop (a + n) m)), drop-at p (drop (a + n) m) (a + n) s, drop-drop)
+
+-- ---- n bytes say less than 2 ^ (8 * n)
+
+pub of-lt : (n : ℕ) (s : List ℕ) → ((k : ℕ) → getD s k 0 < 2 ^ 8) → ofLe (take n s) < 2 ^ (8 * n)
+unfolding ofLe
+of-lt zero s h = omega arith
+of-lt (suc n) [] h = pow-pos (8 * suc n)
+of-lt (suc n) (v ∷ s) h =
+    let e : 8 * suc n ≡ 8 + 8 * n = omega arith in
+    rw (e, pow-add 2 8 (8 * n)) (omega (arith, of-lt n s (λ k. h (suc k)), h 0))
+
+pub loaded-lt : (n a : ℕ) (m : List ℕ) → ((k : ℕ) → getD m k 0 < 2 ^ 8) → load n a m < 2 ^ (8 * n)
+unfolding load
+loaded-lt n a m h = of-lt n (drop a m) (λ k. rw getD-drop (h (a + k)))

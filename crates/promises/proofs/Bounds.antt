@@ -1,19 +1,19 @@
 -- What is computed fits: every number that an instruction computes of 32-bit numbers is below 2 ^ 32, what n bytes say is below 2 ^ (8 * n), and lists of bytes stay lists of bytes under stores.
 -- Assumes nothing.
 use mathlib.Core.Path.{_≡_, refl, ap}
-use mathlib.Core.Bool.{Bool, true, false, cond}
+use mathlib.Core.Bool.{Bool, true, false}
 use mathlib.Core.List.{List, [], _∷_, _++_}
-use Prim.Native.Nat.{ℕ, zero, suc, _+_, _-_, _*_, _/_, _%_, _^_, _<_, _≤_}
+use Prim.Native.Nat.{ℕ, zero, suc, _+_, _-_, _*_, _/_, _%_, _^_, _<_}
 use native.Mathlib.Nat.{mod-lt, mod-le, div-le-self, lt-of-le-of-lt}
 use native.Mathlib.Omega.{arith}
 use lib.ListN.{length, take, drop, getD, set}
 use lib.Dec.{eqb, ltb}
-use lib.Pow.{pow-pos, pow-mono, pow-add}
+use lib.Pow.{pow-pos}
 use lib.Bits.{and-lt, or-lt, xor-lt}
 use lib.IntN.{ℤ, pos, negsuc, _*ℤ_}
 use lib.Signed.{ltZ, shrZ, quotZ, remZ}
-use Rattle.word.specs.Bits.{sext}
-use Rattle.word.proofs.Signs.{sign-lt, sext-clear, sext-set}
+use Rattle.word.proofs.Bools.{either}
+use Rattle.word.proofs.Signs.{sext-lt}
 use Rattle.isa.specs.declared.Reg.{Reg}
 use Rattle.isa.specs.declared.ArithOp.{ArithOp}
 use Rattle.isa.specs.declared.ArithOp.the-variants.{Add, Sub, Sll, Slt, Sltu, Xor, Srl, Sra, Or, And}
@@ -25,7 +25,8 @@ use Rattle.isa.specs.declared.MulDivOp.{MulDivOp}
 use Rattle.isa.specs.declared.MulDivOp.the-variants.{Mul, Mulh, Mulhsu, Mulhu, Div, Divu, Rem, Remu}
 use Rattle.isa.specs.declared.LoadOp.{LoadOp}
 use Rattle.isa.specs.declared.LoadOp.the-variants.{Lb, Lh, Lw, Lbu, Lhu}
-use Rattle.octets.specs.Bytes.{le, ofLe, load, store}
+use Rattle.octets.specs.Bytes.{le, load, store}
+use Rattle.octets.proofs.Bytes.{of-lt, loaded-lt}
 use Rattle.octets.specs.Widths.{bytes}
 use Rattle.part.specs.Row.{burnt}
 use Rattle.alu.specs.Arithmetic.{flag, amount, arithOf, immOf, shiftOf, mulDivOf}
@@ -34,11 +35,6 @@ use Rattle.access.specs.Accesses.{loadWidth, extended}
 use Rattle.state.specs.States.{registerOf, registerSet}
 use Rattle.state.specs.Sizes.{AllBelow, Fits}
 use Rattle.records.specs.Records.{ofWords, stateOf}
-
--- what holds of both cases holds of the one that a test picks
-pub either : {A : Type 0} (P : A → Type 0) (b : Bool) (s t : A) → P s → P t → P (cond b s t)
-either P true s t h k = h
-either P false s t h k = k
 
 -- a word's bound
 abbrev Word : ℕ → Type 0
@@ -81,23 +77,14 @@ register-below r v x h k = either (AllBelow (2 ^ 32)) (eqb (r .number) 0) _ _ h 
 -- ---- bytes
 
 -- n bytes say less than 2 ^ (8 * n)
-of-lt : (n : ℕ) (s : List ℕ) → AllBelow (2 ^ 8) s → ofLe (take n s) < 2 ^ (8 * n)
-unfolding ofLe
-of-lt zero s h = omega arith
-of-lt (suc n) [] h = pow-pos (8 * suc n)
-of-lt (suc n) (v ∷ s) h =
-    let e : 8 * suc n ≡ 8 + 8 * n = omega arith in
-    rw (e, pow-add 2 8 (8 * n)) (let k = of-lt n s (h .1) in let l = h .0 in omega arith)
-
 pub load-lt : (n a : ℕ) (m : List ℕ) → AllBelow (2 ^ 8) m → load n a m < 2 ^ (8 * n)
-unfolding load
-load-lt n a m h = of-lt n (drop a m) (below-drop (2 ^ 8) a m h)
+load-lt n a m h = loaded-lt n a m (λ k. below-get (2 ^ 8) m k (omega arith) h)
 
 -- the state that bytes say
 of-words-below : (n : ℕ) (m : List ℕ) → AllBelow (2 ^ 8) m → AllBelow (2 ^ 32) (ofWords n m)
 unfolding ofWords
 of-words-below zero m h = tt
-of-words-below (suc n) m h = (of-lt 4 m h, of-words-below n (drop 4 m) (below-drop (2 ^ 8) 4 m h))
+of-words-below (suc n) m h = (of-lt 4 m (λ k. below-get (2 ^ 8) m k (omega arith) h), of-words-below n (drop 4 m) (below-drop (2 ^ 8) 4 m h))
 
 length-of-words : (n : ℕ) (m : List ℕ) → length (ofWords n m) ≡ n
 unfolding ofWords
@@ -142,18 +129,6 @@ low-lt k (negsuc n) = let l = mod-lt n (pow-pos k) in omega arith
 flag-lt : (t : Bool) → flag t < 2 ^ 32
 flag-lt true = omega arith
 flag-lt false = omega arith
-
--- a sign-extended number of k bits
-pub sext-lt : (k x : ℕ) → 1 ≤ k → k ≤ 32 → x < 2 ^ k → sext k x < 2 ^ 32
-sext-lt k x p q h = go (x / 2 ^ (k - 1)) refl
-  where
-    l : 2 ^ k ≤ 2 ^ 32
-    l = pow-mono q
-
-    go : (s : ℕ) → x / 2 ^ (k - 1) ≡ s → sext k x < 2 ^ 32
-    go zero e = rw (sext-clear k x e) (let m = l in omega arith)
-    go (suc zero) e = rw (sext-set k x e) (let m = l in omega arith)
-    go (suc (suc n)) e = absurd (let s = sign-lt k x p h in omega arith)
 
 pub arith-lt : (o : ArithOp) (a b : ℕ) → a < 2 ^ 32 → b < 2 ^ 32 → arithOf o a b < 2 ^ 32
 arith-lt Add a b h k = word-lt (a + b)

@@ -1,16 +1,16 @@
 -- What every step keeps: the state's numbers fit and are well-formed, bytes are bytes, memory keeps its length, and the row its rules.
 -- The argument: what an instruction computes fits, its next pc is even because every immediate of a decoded jump or branch is, and a store changes memory or row in bytes only.
 -- Assumes nothing.
-use mathlib.Core.Path.{_≡_, refl, subst, _∙_}
+use mathlib.Core.Path.{_≡_, refl, _∙_}
 use mathlib.Core.Bool.{Bool, true, false, cond, _&&_, and-eq-true-iff}
 use mathlib.Core.List.{List}
 use Prim.Native.Nat.{ℕ, zero, suc, _+_, _-_, _*_, _%_, _^_, _<_, _≤_}
-use native.Mathlib.Nat.{mod-lt}
 use native.Mathlib.Omega.{arith}
 use lib.ListN.{length, length-set}
 use lib.Dec.{eqb, ltb, leb}
-use lib.Pow.{pow-pos}
 use borrow.Author.Tests.{eqb-true, ltb-true, eq-eqb, le-leb, leb-true}
+use Rattle.word.proofs.Bools.{either}
+use Rattle.word.proofs.Signs.{signed-lt}
 use Rattle.answers.specs.declared.Stop.{Stop}
 use Rattle.answers.specs.declared.Stop.the-variants as S
 use Rattle.answers.specs.Stops.{stopNumber}
@@ -53,7 +53,7 @@ use Rattle.machine.specs.Steps.{World, effectFetched, effectAt, next, applied, 
 use Rattle.machine.specs.Entries.{checked}
 use Rattle.promises.specs.Burning.{Row}
 use Rattle.promises.specs.Cuts.{Sized}
-use Rattle.promises.proofs.Bounds.{either, word-lt, register-lt, register-below, load-lt, store-below, burnt-below, sext-lt, arith-lt, imm-lt, shift-lt, muldiv-lt, extended-lt}
+use Rattle.promises.proofs.Bounds.{word-lt, register-lt, register-below, load-lt, store-below, burnt-below, arith-lt, imm-lt, shift-lt, muldiv-lt, extended-lt}
 use Rattle.promises.proofs.Fuses.{row-burnt}
 
 -- ---- what is kept
@@ -126,11 +126,6 @@ record Fine (m : List ℕ) (d : Done) : Type 0 where
   row-bytes : AllBelow (2 ^ 8) (d .row)
   row-sound : Row (d .row)
 
--- the immediate of an instruction that has a word
-signed-lt : (imm : ℕ) → signedOk 12 imm ≡ true → imm < 2 ^ 32
-signed-lt imm e =
-    subst (λ (n : ℕ). n < 2 ^ 32) (eqb-true _ imm e) (sext-lt 12 (imm % 2 ^ 12) (omega arith) (omega arith) (mod-lt imm (pow-pos 12)))
-
 module _ (w : World) (g : Good w) where
   -- memory and row as they were
   leaves : (e : Effect) → EffectFits e → Fine (w .mem) (done e (w .mem) (w .row))
@@ -190,7 +185,7 @@ module _ (w : World) (g : Good w) where
       let size : ℕ = length (w .mem) in
       store-fine (placed n a size) o (registerOf (w .st .x) rs2) _ (λ i q. placed-memory n a size i q .1) (placed-fuse n a size) (aside len l)
   effect-fine (Imm o rd rs1 imm) len h l =
-      leaves _ (imm-lt o _ imm (read-lt rs1) (signed-lt imm (second (regOk rs1) _ (second (regOk rd) _ h))), aside len l)
+      leaves _ (imm-lt o _ imm (read-lt rs1) (signed-lt 12 imm (omega arith) (omega arith) (second (regOk rs1) _ (second (regOk rd) _ h))), aside len l)
   effect-fine (Shift o rd rs1 shamt) len h l =
       let s : shamt < 32 = ltb-true shamt 32 (second (regOk rs1) _ (second (regOk rd) _ h)) in
       leaves _ (shift-lt o _ shamt (read-lt rs1) (omega arith), aside len l)

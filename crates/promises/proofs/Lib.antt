@@ -7,4 +7,5 @@ pub mod Bounds
 pub mod Invariants
 pub mod Cuts
 pub mod Burning
+pub mod Text
 pub mod Cards

@@ -30,21 +30,21 @@ use Rattle.promises.proofs.Readings.{apart, number}
 
 -- ---- a chain of tests, and the rows that say the same
 
-abbrev Refuses : Check → ℕ → Type 0
+abbrev pub Refuses : Check → ℕ → Type 0
 Refuses Passed n = ⊥
 Refuses (Refused r) n = n ≡ numberOf r
 
-abbrev Says : Check → (ℕ → Type 0) → Type 0
+abbrev pub Says : Check → (ℕ → Type 0) → Type 0
 Says c rows = (n : ℕ) → Refuses c n ↔ rows n
 
 same : {A : Type 0} → A ↔ A
 same = (λ e. e, λ e. e)
 
-passes : Says Passed end
+pub passes : Says Passed end
 passes n = same
 
 -- a test before the others is a row before theirs
-then : (b : Bool) (r : Refusal) (rest : Check) {Holds : Type 0} {later : ℕ → Type 0} → (b ≡ false) ↔ Holds → Says rest later
+pub then : (b : Bool) (r : Refusal) (rest : Check) {Holds : Type 0} {later : ℕ → Type 0} → (b ≡ false) ↔ Holds → Says rest later
     → Says (unless b r rest) (row (numberOf r) Holds later)
 then true r rest p q n = (
   λ e. inr (λ h. let z = p .1 h in let y : _≡_ {A = ℕ} 0 1 = cc in omega arith, q n .0 e),
@@ -113,7 +113,7 @@ accepted-passes w a = go (checked w) (λ n e. a n (machine-says w n .0 e))
 
 -- ---- the answers
 
-exactly : {A : Type 0} {x : Answer A} {rows : ℕ → Type 0} (c : Check) (a : A) → x ≡ ofCheck c a → Says c rows
+pub exactly : {A : Type 0} {x : Answer A} {rows : ℕ → Type 0} (c : Check) (a : A) → x ≡ ofCheck c a → Says c rows
     → (n : ℕ) → (x ≡ refusedWith n) ↔ rows n
 exactly Passed a e q n = (λ t. absurd (apart (sym e ∙ t)), λ t. absurd (q n .1 t))
 exactly (Refused r) a e q n = (λ t. q n .0 (number (sym t ∙ e)), λ t. e ∙ ap refusedWith (sym (q n .1 t)))

@@ -3,4 +3,5 @@ pub mod Refusals
 pub mod Steps
 pub mod Cuts
 pub mod Burning
+pub mod Text
 pub mod Cards

@@ -1,14 +1,13 @@
 -- Every halfword that is tried has 16 bits. Assumes nothing.
-use mathlib.Core.Bool.{Bool, true, false, cond}
 use Prim.Native.Nat.{ℕ, _+_, _%_, _^_, _<_}
 use native.Mathlib.Omega.{arith}
 use lib.Dec.{eqb, ltb}
+use Rattle.word.proofs.Bools.{either}
 use Rattle.word.proofs.Rows.{found}
 use Rattle.shortest.specs.Trial.{tries, tryNone, tryFor}
 
-either : (b : Bool) (x y : ℕ) → x < 2 ^ 16 → y < 2 ^ 16 → cond b x y < 2 ^ 16
-either true x y p q = p
-either false x y p q = q
+abbrev Half : ℕ → Type 0
+Half h = h < 2 ^ 16
 
 -- every format has 16 bits, whatever its fields hold
 abbrev Small : (ℕ → ℕ → ℕ → ℕ → ℕ) → Type 0
@@ -28,11 +27,11 @@ half o d s t v =
             (
               λ e d s t v. omega arith,
               (
-                λ e d s t v. either (eqb s 2) _ _ (omega arith) (omega arith),
+                λ e d s t v. either Half (eqb s 2) _ _ (omega arith) (omega arith),
                 (
-                  λ e d s t v. either (eqb s 2) _ _ (omega arith) (omega arith),
+                  λ e d s t v. either Half (eqb s 2) _ _ (omega arith) (omega arith),
                   (
-                    λ e d s t v. either (eqb d s) _ _ (either (ltb ((v + 32) % 2 ^ 32) 64) _ _ (omega arith) (omega arith)) (either (eqb s 0) _ _ (omega arith) (omega arith)),
+                    λ e d s t v. either Half (eqb d s) _ _ (either Half (ltb ((v + 32) % 2 ^ 32) 64) _ _ (omega arith) (omega arith)) (either Half (eqb s 0) _ _ (omega arith) (omega arith)),
                     (
                       λ e d s t v. omega arith,
                       (

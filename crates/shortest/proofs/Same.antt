@@ -1,6 +1,7 @@
--- Instructions with the same parts are equal: each comes back from its parts. Assumes nothing.
-use mathlib.Core.Path.{_≡_, refl, sym, ap, _∙_}
-use mathlib.Core.Bool.{_&&_}
+-- Instructions with the same parts are equal: each comes back from its parts, by a row of one table. So what holds of each row holds of every instruction.
+-- Assumes nothing.
+use mathlib.Core.Path.{_≡_, refl, sym, ap, subst, _∙_}
+use mathlib.Core.Bool.{Bool, true, false, cond, _&&_}
 use mathlib.Core.List.{List, [], _∷_}
 use Prim.Native.Nat.{ℕ}
 use lib.Dec.{T, eqb, eqb→eq}
@@ -20,7 +21,8 @@ use Rattle.isa.specs.Registers.{reg}
 use Rattle.isa.specs.Operations.{parts, partsOf}
 use Rattle.isa.specs.Shortening.{sameParts}
 
-abbrev operations : ℕ → ℕ → ℕ → ℕ → List (ℕ × Inst)
+-- the 48 operations at given operands
+abbrev pub operations : ℕ → ℕ → ℕ → ℕ → List (ℕ × Inst)
 operations d s t v =
     (0, Lui (reg d) v)
     ∷ (1, Auipc (reg d) v)
@@ -149,3 +151,44 @@ same-parts i j t = parts-same (partsOf i) (partsOf j) t
 
 pub same : (i j : Inst) → T (sameParts (partsOf i) (partsOf j)) → i ≡ j
 same i j t = sym (back i) ∙ ap build (same-parts i j t) ∙ back j
+
+-- ---- what every instruction passes
+
+abbrev pub passes : (Inst → Bool) → List (ℕ × Inst) → Bool
+passes f [] = f Ecall
+passes f (r ∷ t) = f (r .1) && passes f t
+
+found-passes : (f : Inst → Bool) (t : List (ℕ × Inst)) (k : ℕ) → T (passes f t) → T (f (find Ecall t k (λ i. i)))
+found-passes f [] k h = h
+found-passes f (r ∷ t) k h = go (found-passes f t k (and-right (f (r .1)) (passes f t) h)) (eqb k (r .0))
+  where
+    go : T (f (find Ecall t k (λ i. i))) → (b : Bool) → T (f (cond b (r .1) (find Ecall t k (λ i. i))))
+    go u true = and-left (f (r .1)) (passes f t) h
+    go u false = u
+
+-- a test that each operation passes, whatever its operands are
+pub each : (f : Inst → Bool) → ((d s t v : ℕ) → T (passes f (operations d s t v))) → (i : Inst) → T (f i)
+unfolding build
+each f h i = let p = partsOf i in subst (λ j. T (f j)) (back i) (found-passes f (operations (p .rd) (p .rs1) (p .rs2) (p .imm)) (p .operation) (h (p .rd) (p .rs1) (p .rs2) (p .imm)))
+
+-- ---- what the operation alone decides
+
+found-through : {B : Type 0} (f : Inst → B) (t : List (ℕ × Inst)) (k : ℕ) → f (find Ecall t k (λ i. i)) ≡ find (f Ecall) t k f
+found-through f [] k = refl
+found-through f (r ∷ t) k = go (found-through f t k) (eqb k (r .0))
+  where
+    go : f (find Ecall t k (λ i. i)) ≡ find (f Ecall) t k f → (b : Bool) → f (cond b (r .1) (find Ecall t k (λ i. i))) ≡ cond b (f (r .1)) (find (f Ecall) t k f)
+    go u true = refl
+    go u false = u
+
+-- f does not look at the operands, so it is the same for instructions of one operation
+pub by-operation : {B : Type 0} (f : Inst → B)
+    → ((d s t v k : ℕ) → find (f Ecall) (operations d s t v) k f ≡ find (f Ecall) (operations 0 0 0 0) k f)
+    → (i j : Inst) → partsOf i .operation ≡ partsOf j .operation → f i ≡ f j
+unfolding build
+by-operation f blind i j e = at i ∙ ap (λ (k : ℕ). find (f Ecall) (operations 0 0 0 0) k f) e ∙ sym (at j)
+  where
+    at : (i : Inst) → f i ≡ find (f Ecall) (operations 0 0 0 0) (partsOf i .operation) f
+    at i =
+        let p = partsOf i in
+        ap f (sym (back i)) ∙ found-through f (operations (p .rd) (p .rs1) (p .rs2) (p .imm)) (p .operation) ∙ blind (p .rd) (p .rs1) (p .rs2) (p .imm) (p .operation)

@@ -1,11 +1,14 @@
 -- Sign extension, over the width. Assumes nothing.
 use mathlib.Core.Path.{_≡_, ap, subst, _∙_}
+use mathlib.Core.Bool.{true}
 use Prim.Native.Nat.{ℕ, _+_, _-_, _*_, _/_, _%_, _^_, _<_, _≤_}
-use native.Mathlib.Nat.{le-of-lt, zero-mul, one-mul, zero-add, mul-assoc}
+use native.Mathlib.Nat.{le-of-lt, zero-mul, one-mul, zero-add, mul-assoc, mul-le-mul-right, mod-lt}
 use native.Mathlib.Omega.{arith}
 use lib.Pow.{pow-pos, pow-mono, shr-lt, high-ones}
 use lib.Pow as Pow
-use Rattle.word.specs.Bits.{sext}
+use lib.Dec.{eqb}
+use borrow.Author.Tests.{eqb-true}
+use Rattle.word.specs.Bits.{low, sext}
 
 -- 0xffff_ffff << k, on 32 bits: ones from bit k up
 pub ones-from : (k : ℕ) → k < 32 → (2 ^ 32 - 1) * 2 ^ k % 2 ^ 32 ≡ 2 ^ 32 - 2 ^ k
@@ -27,6 +30,17 @@ sext-clear k x z = rw (z, zero-mul, zero-add)
 
 pub sext-set : (k x : ℕ) → x / 2 ^ (k - 1) ≡ 1 → sext k x ≡ 2 ^ 32 - 2 ^ k + x
 sext-set k x z = rw (z, one-mul)
+
+-- a sign-extended number has 32 bits
+pub sext-lt : (k x : ℕ) → 1 ≤ k → k ≤ 32 → x < 2 ^ k → sext k x < 2 ^ 32
+sext-lt k x p q h =
+    let s : x / 2 ^ (k - 1) ≤ 1 = omega (arith, sign-lt k x p h) in
+    let l : 2 ^ k ≤ 2 ^ 32 = pow-mono q in
+    omega (arith, mul-le-mul-right (2 ^ 32 - 2 ^ k) s)
+
+-- .. and so has one that is the sign extension of its k low bits
+pub signed-lt : (k n : ℕ) → 1 ≤ k → k ≤ 32 → eqb (sext k (low k n)) n ≡ true → n < 2 ^ 32
+signed-lt k n p q e = subst (λ (m : ℕ). m < 2 ^ 32) (eqb-true _ n e) (sext-lt k (low k n) p q (mod-lt n (pow-pos k)))
 
 -- what sign extension adds to x is a multiple of 2 ^ k
 pub sext-above : (k x : ℕ) → k ≤ 32 → sext k x ≡ x / 2 ^ (k - 1) * (2 ^ (32 - k) - 1) * 2 ^ k + x
