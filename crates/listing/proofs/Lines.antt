@@ -7,7 +7,7 @@ use Prim.Native.Nat.{ℕ, _+_, _*_, _%_, _^_, _≤_, _<_}
 use native.Mathlib.Omega.{arith}
 use lib.ListN.{length, getD, length-append}
 use lib.Dec.{eqb, leb}
-use borrow.Author.Tests.{leb-true, le-leb, lt-leb}
+use borrow.Author.Tests.{leb-true, le-leb, lt-leb, eqb-true}
 use Rattle.ascii.specs.Ascii.{bytes}
 use Rattle.ascii.specs.Numbers.{hex}
 use Rattle.ascii.proofs.Numbers.{hex-length}
@@ -26,9 +26,10 @@ use Rattle.octets.proofs.Bytes.{loaded-lt}
 use Rattle.fetch.specs.declared.Fetched.{Fetched}
 use Rattle.fetch.specs.declared.Fetched.the-variants.{Instruction, Fails}
 use Rattle.fetch.specs.Fetching.{legal, fetchedWith, fetched}
-use Rattle.text.specs.Text.{textOf, shortTextOf}
 use Rattle.text.proofs.Lengths.{text-fits, short-text-fits}
-use Rattle.listing.specs.Listing.{Shown, shown, shownOf, shownAt, Lines, lines, lineWith, lineOf, lineAt}
+use Rattle.listing.specs.declared.Shown.{Shown}
+use Rattle.listing.specs.declared.Shown.the-variants.{Long, Short, Unknown, Odd}
+use Rattle.listing.specs.Listing.{shownOf, shownAt, sizeOf, shownText, Lines, lines, lineOf, lineAt}
 
 -- ---- loads of bytes
 
@@ -78,40 +79,53 @@ module _ (m : List ℕ) (a : ℕ) where
 
 module _ (image : List ℕ) (a : ℕ) where
   -- what holds of each thing that can be shown
-  shown-is : (P : Shown → Type 0) → P (shown 1 (bytes "?")) → P (shown 2 (bytes "?"))
-      → ((i : Inst) (len : ℕ) → fetched a image ≡ Instruction i len → P (shown 4 (textOf i)) × P (shown 2 (shortTextOf i))) → P (shownAt image a)
+  shown-is : (P : Shown → Type 0) → P Odd → (a + 2 ≤ length image → P Unknown)
+      → ((i : Inst) (len : ℕ) → a + 2 ≤ length image → fetched a image ≡ Instruction i len → (len ≡ 4 → P (Long i)) × P (Short i))
+      → P (shownAt image a)
   unfolding shownAt shownOf
-  shown-is P odd unknown known = either P (leb (a + 2) (length image)) _ _ (go (fetched a image) refl) odd
+  shown-is P odd unknown known = two (leb (a + 2) (length image)) refl
     where
-      go : (r : Fetched) → fetched a image ≡ r → P (shownOf r)
-      go (Instruction i len) e = either P (eqb len 4) _ _ (known i len e .0) (known i len e .1)
-      go (Fails stop) e = unknown
+      by-size : (i : Inst) (len : ℕ) → (len ≡ 4 → P (Long i)) × P (Short i) → (t : Bool) → eqb len 4 ≡ t → P (cond t (Long i) (Short i))
+      by-size i len k true e = k .0 (eqb-true len 4 e)
+      by-size i len k false e = k .1
 
-  shown-size : 1 ≤ shownAt image a .size
-  shown-size = shown-is (λ s. 1 ≤ s .size) (omega arith) (omega arith) (λ i len e. (omega arith, omega arith))
+      go : a + 2 ≤ length image → (r : Fetched) → fetched a image ≡ r → P (shownOf r)
+      go h (Instruction i len) e = by-size i len (known i len h e) (eqb len 4) refl
+      go h (Fails stop) e = unknown h
 
-  shown-fits : Loads image → 2 * shownAt image a .size + length (shownAt image a .text) ≤ 27
+      two : (t : Bool) → leb (a + 2) (length image) ≡ t → P (cond t (shownOf (fetched a image)) Odd)
+      two true e = go (leb-true _ _ e) (fetched a image) refl
+      two false e = odd
+
+  shown-size : 1 ≤ sizeOf (shownAt image a)
+  shown-size = shown-is (λ s. 1 ≤ sizeOf s) (omega arith) (λ h. omega arith) (λ i len h e. (λ k. omega arith, omega arith))
+
+  -- it lies within the image
+  pub shown-within : Loads image → a < length image → a + sizeOf (shownAt image a) ≤ length image
+  shown-within l k =
+      shown-is (λ s. a + sizeOf s ≤ length image) (omega arith) (λ h. omega arith)
+      (λ i len h e. (λ q. let r = fetched-fits image a l e .0 in omega arith, omega arith))
+
+  pub shown-fits : Loads image → 2 * sizeOf (shownAt image a) + length (shownText (shownAt image a)) ≤ 27
   shown-fits l =
-      shown-is (λ s. 2 * s .size + length (s .text) ≤ 27) (omega arith) (omega arith)
-      (λ i len e. let r = fetched-fits image a l e .1 in (omega (arith, text-fits i r), omega (arith, short-text-fits i r)))
+      shown-is (λ s. 2 * sizeOf s + length (shownText s) ≤ 27) (omega arith) (λ h. omega arith)
+      (λ i len h e. let r = fetched-fits image a l e .1 in (λ k. omega (arith, text-fits i r), omega (arith, short-text-fits i r)))
 
 -- ---- lines
 
 pub front-length : (a digits bits : ℕ) → length (hex 8 a ++ bytes " " ++ hex digits bits ++ bytes " ") ≡ digits + 10
 front-length a digits bits = simp length-append (omega (arith, hex-length 8 a, hex-length digits bits))
 
-line-length : (a digits bits : ℕ) (text : List ℕ) → length (lineWith a digits bits text) ≡ digits + length text + 11
-unfolding lineWith
-line-length a digits bits text = rw (length-append _ (bytes "\n"), length-append _ text, front-length) (omega arith)
-
 module _ (image : List ℕ) (a : ℕ) where
+  line-length : (s : Shown) → length (lineOf image a s) ≡ 2 * sizeOf s + length (shownText s) + 11
+  unfolding lineOf
+  line-length s = rw (length-append _ (bytes "\n"), length-append _ (shownText s), front-length) (omega arith)
+
   -- the longest line
   pub line-fits : Loads image → length (lineAt image a .text) ≤ 38
   unfolding lineAt
   line-fits l =
-      either (λ (s : Lines). length (s .text) ≤ 38) (leb (length image) 65536) _ _
-      (rw line-length (omega (arith, shown-fits image a l)))
-      (omega arith)
+      either (λ (s : Lines). length (s .text) ≤ 38) (leb (length image) 65536) _ _ (rw line-length (omega (arith, shown-fits image a l))) (omega arith)
 
   -- a line moves on
   pub line-moves : a < length image → a < lineAt image a .next
@@ -123,12 +137,6 @@ module _ (image : List ℕ) (a : ℕ) where
   unfolding lineAt
   line-none h = rw (lt-leb _ _ h)
 
-  pub line-odd : length image ≤ 65536 → length image < a + 2 → lineAt image a ≡ lines (lineOf image a (shown 1 (bytes "?"))) (a + 1)
-  unfolding lineAt shownAt
-  line-odd h k = rw (le-leb _ _ h, lt-leb _ _ k)
-
-  -- .. and by what is fetched
-  pub line-two : {r : Fetched} → length image ≤ 65536 → a + 2 ≤ length image → r ≡ fetched a image
-      → lineAt image a ≡ lines (lineOf image a (shownOf r)) (a + shownOf r .size)
-  unfolding lineAt shownAt
-  line-two h k e = rw (le-leb _ _ h, le-leb _ _ k, ← e)
+  pub line-some : length image ≤ 65536 → lineAt image a ≡ lines (lineOf image a (shownAt image a)) (a + sizeOf (shownAt image a))
+  unfolding lineAt
+  line-some h = rw (le-leb _ _ h)

@@ -12,25 +12,33 @@ use Rattle.fetch.specs.declared.Fetched.{Fetched}
 use Rattle.fetch.specs.declared.Fetched.the-variants.{Instruction, Fails}
 use Rattle.fetch.specs.Fetching.{fetched}
 use Rattle.text.specs.Text.{textOf, shortTextOf}
+use Rattle.listing.specs.declared.Shown.{Shown}
+use Rattle.listing.specs.declared.Shown.the-variants.{Long, Short, Unknown, Odd}
 use Rattle.listing.specs.declared.Listed.{Listed}
 
--- ---- what a line shows: so many bytes of the image, and a text for them
+-- ---- what a line shows
 
-pub record Shown : Type 0 where
-  pub size : ℕ
-  pub text : List ℕ
-
-abbrev pub shown : ℕ → List ℕ → Shown
-shown size text = record { size = size; text = text }
-
--- an instruction of four bytes or of two; bits that are not a legal instruction that fits: two bytes and ?
+-- an instruction of four bytes or of two; bits that are not a legal instruction that fits
 unfoldable pub shownOf : Fetched → Shown
-shownOf (Instruction i len) = cond (eqb len 4) (shown 4 (textOf i)) (shown 2 (shortTextOf i))
-shownOf (Fails stop) = shown 2 (bytes "?")
+shownOf (Instruction i len) = cond (eqb len 4) (Long i) (Short i)
+shownOf (Fails stop) = Unknown
 
--- at address a: what a step would fetch there; a last odd byte: one byte and ?
+-- at address a: what a step would fetch there; a last odd byte
 unfoldable pub shownAt : List ℕ → ℕ → Shown
-shownAt image a = cond (leb (a + 2) (length image)) (shownOf (fetched a image)) (shown 1 (bytes "?"))
+shownAt image a = cond (leb (a + 2) (length image)) (shownOf (fetched a image)) Odd
+
+-- how many bytes it is
+abbrev pub sizeOf : Shown → ℕ
+sizeOf (Long i) = 4
+sizeOf (Short i) = 2
+sizeOf Unknown = 2
+sizeOf Odd = 1
+
+abbrev pub shownText : Shown → List ℕ
+shownText (Long i) = textOf i
+shownText (Short i) = shortTextOf i
+shownText Unknown = bytes "?"
+shownText Odd = bytes "?"
 
 -- ---- lines, and the address after what they show
 
@@ -41,19 +49,15 @@ pub record Lines : Type 0 where
 abbrev pub lines : List ℕ → ℕ → Lines
 lines text next = record { text = text; next = next }
 
--- 8 hex digits of address, a space, so many digits of the bits, a space, the text; each line ends with a newline
-unfoldable pub lineWith : ℕ → ℕ → ℕ → List ℕ → List ℕ
-lineWith a digits bits text = hex 8 a ++ bytes " " ++ hex digits bits ++ bytes " " ++ text ++ bytes "\n"
-
--- the bytes that are shown, as a number with two digits for each
-abbrev pub lineOf : List ℕ → ℕ → Shown → List ℕ
-lineOf image a s = lineWith a (2 * s .size) (load (s .size) a image) (s .text)
+-- 8 hex digits of address, a space, the bytes as a number with two digits for each, a space, the text; each line ends with a newline
+unfoldable pub lineOf : List ℕ → ℕ → Shown → List ℕ
+lineOf image a s = hex 8 a ++ bytes " " ++ hex (2 * sizeOf s) (load (sizeOf s) a image) ++ bytes " " ++ shownText s ++ bytes "\n"
 
 -- the line at address a; an image of over 65,536 bytes has the one line `too long`
 unfoldable pub lineAt : List ℕ → ℕ → Lines
 lineAt image a =
     cond (leb (length image) 65536)
-    (lines (lineOf image a (shownAt image a)) (a + shownAt image a .size))
+    (lines (lineOf image a (shownAt image a)) (a + sizeOf (shownAt image a)))
     (lines (bytes "too long\n") (length image))
 
 -- the lines from address a on, of which there are at most n

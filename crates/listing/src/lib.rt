@@ -5,6 +5,7 @@ use ascii::put_hex;
 use fetch::Fetched;
 use fetch::fetch;
 use isa::Inst;
+use octets::load1;
 use octets::load2;
 use octets::load4;
 use text::put_short_text;
@@ -16,8 +17,8 @@ ghost use lib.ListN.{length};
 ghost use Rattle.ascii.specs.Ascii.{bytes};
 ghost use Rattle.ascii.specs.Numbers.{hex};
 ghost use Rattle.ascii.specs.Rooms.{Wrote};
-ghost use Rattle.text.specs.Text.{textOf, shortTextOf};
-ghost use Rattle.listing.specs.Listing.{lineWith, lineAt, page, listEntry};
+ghost use Rattle.octets.specs.Bytes.{load};
+ghost use Rattle.listing.specs.Listing.{shownAt, sizeOf, shownText, lineAt, page, listEntry};
 
 // What `list` answers: the length of what it wrote, and the address of the line that comes next.
 pub struct Listed {
@@ -30,16 +31,66 @@ const IMAGE: usize = 65536;
 
 const LINE: usize = 38;
 
+// What a line shows: an instruction of four bytes or of two, two bytes that are none, or a last odd
+// byte.
+pub enum Shown {
+    Long(Inst),
+    Short(Inst),
+    Unknown,
+    Odd,
+}
+
 // A line that has been written: the place after it, and the address after what it shows.
 struct Line {
     end: usize,
     next: usize,
 }
 
+// What a step would fetch at an address; a byte that is the last is no instruction.
+fn shown_at(image: &[u8], at: usize) -> Shown
+    requires { ⌜ at < 65536 ⌝ }
+    ensures { λ r. ⌜ r ≡ shownAt (now (image .entry)) at ⌝ }
+{
+    if at + 2 > image.len() {
+        return Shown::Odd;
+    }
+    let Fetched::Instruction(i, size) = fetch(at as u32, image) else {
+        return Shown::Unknown;
+    };
+    if size == 4 {
+        Shown::Long(i)
+    } else {
+        Shown::Short(i)
+    }
+}
+
+fn size_of(shown: Shown) -> usize
+    ensures { λ r. ⌜ r ≡ sizeOf shown ⌝ }
+{
+    match shown {
+        Shown::Long(_) => 4,
+        Shown::Short(_) => 2,
+        Shown::Unknown => 2,
+        Shown::Odd => 1,
+    }
+}
+
+// The bytes that are shown, as a number.
+fn bits_of(image: &[u8], at: usize, shown: Shown) -> u32
+    requires { ⌜ at + sizeOf shown ≤ length (now image) ⌝ }
+    ensures { λ r. ⌜ r ≡ load (sizeOf shown) at (now (image .entry)) ⌝ }
+{
+    match shown {
+        Shown::Long(_) => load4(image, at),
+        Shown::Short(_) => load2(image, at) as u32,
+        Shown::Unknown => load2(image, at) as u32,
+        Shown::Odd => load1(image, at) as u32,
+    }
+}
+
 // The address and the bits in hexadecimal, each with a space after it.
 fn put_front(room: &mut [u8], from: usize, address: u32, bits: u32, digits: usize) -> usize
-    requires { ⌜ digits ≤ 8 ⌝ }
-    requires { ⌜ from + 18 ≤ length (now room) ⌝ }
+    requires { ⌜ from + (digits + 10) ≤ length (now room) ⌝ }
     ensures { λ r. ⌜ Wrote (now (room .entry)) from (hex 8 address ++ bytes " " ++ hex digits bits ++ bytes " ") (now (room .exit)) r ⌝ }
 {
     let space = put_hex(room, from, address, 8);
@@ -48,35 +99,16 @@ fn put_front(room: &mut [u8], from: usize, address: u32, bits: u32, digits: usiz
     put(room, end, b' ')
 }
 
-// The line of bits that are not a legal instruction that fits.
-fn put_unknown(room: &mut [u8], from: usize, address: u32, bits: u32, digits: usize) -> usize
-    requires { ⌜ digits ≤ 8 ⌝ }
-    requires { ⌜ from + 38 ≤ length (now room) ⌝ }
-    ensures { λ r. ⌜ Wrote (now (room .entry)) from (lineWith address digits bits (bytes "?")) (now (room .exit)) r ⌝ }
+fn put_shown(room: &mut [u8], at: usize, shown: Shown) -> usize
+    requires { ⌜ at + length (shownText shown) ≤ length (now room) ⌝ }
+    ensures { λ r. ⌜ Wrote (now (room .entry)) at (shownText shown) (now (room .exit)) r ⌝ }
 {
-    let text = put_front(room, from, address, bits, digits);
-    let end = put(room, text, b'?');
-    put(room, end, b'\n')
-}
-
-fn put_long(room: &mut [u8], from: usize, address: u32, bits: u32, i: Inst) -> usize
-    requires { ⌜ length (textOf i) ≤ 19 ⌝ }
-    requires { ⌜ from + 38 ≤ length (now room) ⌝ }
-    ensures { λ r. ⌜ Wrote (now (room .entry)) from (lineWith address 8 bits (textOf i)) (now (room .exit)) r ⌝ }
-{
-    let text = put_front(room, from, address, bits, 8);
-    let end = put_text(room, text, i);
-    put(room, end, b'\n')
-}
-
-fn put_short(room: &mut [u8], from: usize, address: u32, bits: u32, i: Inst) -> usize
-    requires { ⌜ length (shortTextOf i) ≤ 21 ⌝ }
-    requires { ⌜ from + 38 ≤ length (now room) ⌝ }
-    ensures { λ r. ⌜ Wrote (now (room .entry)) from (lineWith address 4 bits (shortTextOf i)) (now (room .exit)) r ⌝ }
-{
-    let text = put_front(room, from, address, bits, 4);
-    let end = put_short_text(room, text, i);
-    put(room, end, b'\n')
+    match shown {
+        Shown::Long(i) => put_text(room, at, i),
+        Shown::Short(i) => put_short_text(room, at, i),
+        Shown::Unknown => put(room, at, b'?'),
+        Shown::Odd => put(room, at, b'?'),
+    }
 }
 
 // The line at an address of the image.
@@ -92,28 +124,13 @@ fn put_line(image: &[u8], at: usize, room: &mut [u8], from: usize) -> Line
             next: image.len(),
         };
     }
-    let address = at as u32;
-    if at + 2 > image.len() {
-        return Line {
-            end: put_unknown(room, from, address, image[at] as u32, 2),
-            next: at + 1,
-        };
-    }
-    let Fetched::Instruction(i, size) = fetch(address, image) else {
-        return Line {
-            end: put_unknown(room, from, address, load2(image, at) as u32, 4),
-            next: at + 2,
-        };
-    };
-    if size == 4 {
-        return Line {
-            end: put_long(room, from, address, load4(image, at), i),
-            next: at + 4,
-        };
-    }
+    let shown = shown_at(image, at);
+    let size = size_of(shown);
+    let text = put_front(room, from, at as u32, bits_of(image, at, shown), 2 * size);
+    let newline = put_shown(room, text, shown);
     Line {
-        end: put_short(room, from, address, load2(image, at) as u32, i),
-        next: at + 2,
+        end: put(room, newline, b'\n'),
+        next: at + size,
     }
 }
 

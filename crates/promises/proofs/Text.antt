@@ -31,7 +31,7 @@ use Rattle.disassembler.specs.Entries.{Outcome, filled, kept, roomy, meaning, o
 use Rattle.ascii.specs.Numbers.{hex, signed, decimal, decimalBy}
 use Rattle.octets.specs.Bytes.{ofLe, load}
 use Rattle.fetch.specs.Fetching.{fetched, fetchedWith}
-use Rattle.listing.specs.Listing.{shownOf, shownAt, lineWith, lineAt, linesFrom, listing, pageOf}
+use Rattle.listing.specs.Listing.{shownOf, shownAt, lineOf, lineAt, linesFrom, listing, pageOf}
 use Rattle.listing.proofs.Lines.{line-none}
 use Rattle.listing.proofs.Pages as Pages
 use Rattle.promises.specs.Refusals.{row, end}
@@ -177,9 +177,9 @@ long-listing image h =
     ∙ rw (line-none image 0 h, Pages.lines-end image (length image - 1) (length image) (omega arith))
 
 pub odd-listing : OddListing
-unfolding listing linesFrom lineAt lineWith shownAt shownOf fetched fetchedWith hex load ofLe
+unfolding listing linesFrom lineAt lineOf shownAt shownOf fetched fetchedWith hex load ofLe
 odd-listing = refl
 
 pub paper-listing : PaperListing
-unfolding listing linesFrom lineAt lineWith shownAt shownOf fetched fetchedWith hex load ofLe decoded expanded textOf shortTextOf operandsOf nameAt names signed decimal decimalBy
+unfolding listing linesFrom lineAt lineOf shownAt shownOf fetched fetchedWith hex load ofLe decoded expanded textOf shortTextOf operandsOf nameAt names signed decimal decimalBy
 paper-listing = refl
