@@ -40,7 +40,3 @@ at-front {r₀} {text} {r₁} {n} w h = (
   w .room ∙ sets-eq text r₀ 0 (rw zero-add h) ∙ ap (λ (k : ℕ). text ++ drop k r₀) (zero-add (length text)),
   w .next ∙ zero-add (length text),
 )
-
--- where two texts have room, the second has room after the first
-pub after : {r₀ : List ℕ} {at : ℕ} {a r₁ : List ℕ} {m : ℕ} (b : List ℕ) {n : ℕ} → Wrote r₀ at a r₁ m → at + length (a ++ b) ≤ n → m + length b ≤ n
-after {r₀} {at} {a} {r₁} {m} b {n} w h = omega (arith, w .next, length-append a b, h)
