@@ -1,9 +1,27 @@
-# make demo: proves what the three programs need, and runs them; make test: the gate
-.PHONY: demo test
+# make demo: builds the proved library and shows it at work; make test: the gate
+.PHONY: demo test bench soak peers archive
 
-demo:
-	rt check list vectors cards
-	@printf 'The programs list, vectors and cards wrote:\n'; sed 's/^/    /' target/log/list.stdout target/log/vectors.stdout target/log/cards.stdout
+# the proved library for C and Rust: target/staticlib/libphuyurik.a
+archive:
+	@mkdir -p target; echo 'The library is proved and built: minutes from nothing, seconds where nothing changed.'
+	@./host/archive.sh >target/archive.log 2>&1 || { cat target/archive.log; exit 1; }
+
+CARGO = cd host && PHUYURIK_ARCHIVE=../target/staticlib cargo
+
+demo: archive
+	@$(CARGO) run --quiet --release -- demo
 
 test:
 	bash .ci/run
+
+# million steps a second, as docs/BENCHMARKS.md has them
+bench: archive
+	@$(CARGO) run --quiet --release -p bench
+
+# both emulators on new random inputs until they differ
+soak: archive
+	@$(CARGO) run --quiet --release -p compare -- --seconds 0
+
+# against binutils, LLVM and qemu; needs the network
+peers: archive
+	@PHUYURIK_ARCHIVE=../target/staticlib ./host/peers/peers.sh

@@ -6,6 +6,8 @@ use Rattle.isa.specs.declared.Reg.{Reg}
 use Rattle.isa.specs.declared.Inst.{Inst}
 use Rattle.isa.specs.declared.Named.{Named}
 use Rattle.isa.specs.declared.Named.the-variants as N
+use Rattle.isa.specs.declared.Built.{Built}
+use Rattle.isa.specs.declared.Built.the-variants as B
 use Rattle.isa.specs.declared.Decoded.{Decoded}
 use Rattle.isa.specs.declared.Decoded.the-variants as D
 use Rattle.isa.specs.declared.Encoded.{Encoded}
@@ -17,6 +19,11 @@ use Rattle.isa.specs.declared.Shortened.the-variants as S
 abbrev pub ofNamed : Named → Answer Reg
 ofNamed (N.Register r) = given r
 ofNamed N.OutOfRange = refused Field
+
+-- an instruction by its numbers
+abbrev pub ofBuilt : Built → Answer Inst
+ofBuilt (B.Instruction i) = given i
+ofBuilt B.OutOfRange = refused Field
 
 -- decode and expand
 abbrev pub ofDecoded : Decoded → Answer Inst

@@ -1,5 +1,6 @@
 pub mod Registers
 pub mod Operations
+pub mod Building
 pub mod Fields
 pub mod Decoding
 pub mod Encoding

@@ -1,5 +1,7 @@
 -- The 48 operations in the paper's order, numbered from 0, and an instruction as numbers.
 use Prim.Native.Nat.{ℕ}
+use mathlib.Core.Bool.{Bool, _&&_}
+use lib.Dec.{eqb}
 use Rattle.isa.specs.declared.Inst.{Inst}
 use Rattle.isa.specs.declared.Inst.the-variants.{Lui, Auipc, Jal, Jalr, Branch, Load, Store, Imm, Shift, Arith, Fence, Ecall, Ebreak, MulDiv}
 use Rattle.isa.specs.declared.Cond.{Cond}
@@ -92,3 +94,8 @@ partsOf (Fence rd rs1 field) = parts 37 (rd .number) (rs1 .number) 0 field
 partsOf Ecall = parts 38 0 0 0 0
 partsOf Ebreak = parts 39 0 0 0 0
 partsOf (MulDiv o rd rs1 rs2) = parts (mulDivNumber o) (rd .number) (rs1 .number) (rs2 .number) 0
+
+-- the same operation and the same operands
+abbrev pub sameParts : Parts → Parts → Bool
+sameParts a b =
+    eqb (a .operation) (b .operation) && (eqb (a .rd) (b .rd) && (eqb (a .rs1) (b .rs1) && (eqb (a .rs2) (b .rs2) && eqb (a .imm) (b .imm))))

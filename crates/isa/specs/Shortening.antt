@@ -1,21 +1,14 @@
 -- The short form of an instruction: the smallest halfword, as a number, that stands for it.
 use Prim.Native.Nat.{ℕ, zero, suc, _^_}
-use mathlib.Core.Bool.{Bool, false, cond, _&&_}
-use lib.Dec.{eqb}
+use mathlib.Core.Bool.{Bool, false, cond}
 use Rattle.isa.specs.declared.Inst.{Inst}
-use Rattle.isa.specs.declared.Parts.{Parts}
 use Rattle.isa.specs.declared.Decoded.{Decoded}
 use Rattle.isa.specs.declared.Decoded.the-variants.{Legal, Illegal}
 use Rattle.isa.specs.declared.Shortened.{Shortened}
 use Rattle.isa.specs.declared.Shortened.the-variants.{Half, OutOfRange, NoShortForm}
-use Rattle.isa.specs.Operations.{partsOf}
+use Rattle.isa.specs.Operations.{partsOf, sameParts}
 use Rattle.isa.specs.Encoding.{inRange}
 use Rattle.isa.specs.Rvc.{expanded}
-
--- the same operation and the same operands
-abbrev pub sameParts : Parts → Parts → Bool
-sameParts a b =
-    eqb (a .operation) (b .operation) && (eqb (a .rd) (b .rd) && (eqb (a .rs1) (b .rs1) && (eqb (a .rs2) (b .rs2) && eqb (a .imm) (b .imm))))
 
 abbrev pub means : Decoded → Inst → Bool
 means (Legal j) i = sameParts (partsOf j) (partsOf i)

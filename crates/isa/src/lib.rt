@@ -1,5 +1,5 @@
 // What an instruction is: the registers, the 48 operations with their operands, and what the
-// decoder, the encoder, the expander and the shortener answer.
+// builder, the decoder, the encoder, the expander and the shortener answer.
 ghost use mathlib.Core.Path.{_≡_};
 ghost use Prim.Native.Nat.{_+_};
 ghost use Rattle.word.specs.Bits.{low};
@@ -138,6 +138,12 @@ pub enum Inst {
     Ecall,
     Ebreak,
     MulDiv(MulDivOp, Reg, Reg, Reg),
+}
+
+// What five numbers mean: an operation's and its operands'.
+pub enum Built {
+    Instruction(Inst),
+    OutOfRange,
 }
 
 // What 32 or 16 bits mean.

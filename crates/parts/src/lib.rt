@@ -10,7 +10,7 @@ use isa::Reg;
 use isa::ShiftOp;
 use isa::StoreOp;
 ghost use mathlib.Core.Path.{_≡_};
-ghost use Rattle.isa.specs.Operations.{parts, condNumber, loadNumber, storeNumber, immNumber, shiftNumber, arithNumber, mulDivNumber, partsOf};
+ghost use Rattle.isa.specs.Operations.{parts, condNumber, loadNumber, storeNumber, immNumber, shiftNumber, arithNumber, mulDivNumber, partsOf, sameParts};
 
 fn cond_number(o: Cond) -> u8
     ensures { λ r. ⌜ r ≡ condNumber o ⌝ }
@@ -138,4 +138,12 @@ pub fn parts_of(i: Inst) -> Parts
         Inst::Ebreak => build(39, none, none, none, 0),
         Inst::MulDiv(o, rd, rs1, rs2) => build(mul_div_number(o), rd, rs1, rs2, 0),
     }
+}
+
+// The same operation and the same operands.
+pub fn same_parts(a: Parts, b: Parts) -> bool
+    ensures { λ r. ⌜ r ≡ sameParts a b ⌝ }
+{
+    (a.operation == b.operation)
+        & ((a.rd == b.rd) & ((a.rs1 == b.rs1) & ((a.rs2 == b.rs2) & (a.imm == b.imm))))
 }

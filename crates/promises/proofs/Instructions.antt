@@ -1,33 +1,38 @@
--- The promises of the instruction set: the round trips of the words, the sweep over the halfwords and the chart's rule, in the paper's numbers.
+-- The promises of the instruction set: the round trips of the words and of the five numbers, the sweep over the halfwords and the chart's rule, in the paper's numbers.
 -- Assumes nothing.
 use mathlib.Core.Path.{_≡_, refl, sym, ap, _∙_}
 use mathlib.Core.Bool.{Bool, true, false, cond, _&&_, and-eq-true-iff}
 use mathlib.Core.List.{List, [], _∷_}
 use Prim.Native.Nat.{ℕ, _%_, _<_}
 use native.Mathlib.Omega.{arith}
-use borrow.Author.Tests.{lt-ltb, ltb-true, eqb-true, ne-eqb}
+use borrow.Author.Tests.{lt-ltb, ltb-true, eqb-true, eq-eqb, ne-eqb}
 use lib.Dec.{eqb, ltb}
 use Rattle.word.specs.Tables.{find}
+use Rattle.word.proofs.Bools.{and-right, holds}
 use Rattle.answers.specs.Answer.{given}
 use Rattle.isa.specs.declared.Named.the-variants as N
 use Rattle.isa.specs.declared.Inst.{Inst}
+use Rattle.isa.specs.declared.Parts.{Parts}
+use Rattle.isa.specs.declared.Built.the-variants.{Instruction, OutOfRange}
 use Rattle.isa.specs.declared.Decoded.the-variants.{Illegal}
 use Rattle.isa.specs.declared.Encoded.the-variants as E
 use Rattle.isa.specs.declared.Shortened.the-variants as S
 use Rattle.isa.specs.Registers.{reg}
-use Rattle.isa.specs.Operations.{partsOf}
+use Rattle.isa.specs.Operations.{partsOf, sameParts}
+use Rattle.isa.specs.Building.{built, registers as registersOk}
 use Rattle.isa.specs.Decoding.{decoded, opcodes}
 use Rattle.isa.specs.Fields.{opcode}
 use Rattle.isa.specs.Encoding.{inRange, wordOf, encoded}
 use Rattle.isa.specs.Rvc.{expanded}
 use Rattle.isa.specs.Shortening.{stands, shortened}
-use Rattle.isa.specs.Answers.{ofNamed, ofDecoded, ofEncoded, ofShortened}
+use Rattle.isa.specs.Answers.{ofNamed, ofBuilt, ofDecoded, ofEncoded, ofShortened}
 use Rattle.shortest.specs.Trial.{tried}
 use Rattle.shortest.proofs.Shortest.{by-one, expanded-in-range, shortened-one, shortened-is, no-short-form, none-stands}
+use Rattle.shortest.proofs.Same.{back, parts-same}
 use Rattle.roundtrip.proofs.Words as Words
 use Rattle.chart.proofs.Legal.{legal-charted}
 use Rattle.chart.proofs.Count.{filled-57}
-use Rattle.promises.specs.Instructions.{decodes, Registers, DecodeRefuses, ExpandRefuses, EncodeRefuses, ShortenRefuses, NoShortForm, OtherWidth, DecodeOfEncode, EncodeOfDecode, ExpansionEncodes, ExpandOfShorten, ShortenOfExpand, LegalCharted, ChartFilled}
+use Rattle.promises.specs.Instructions.{decodes, Registers, DecodeRefuses, ExpandRefuses, EncodeRefuses, ShortenRefuses, NoShortForm, OtherWidth, DecodeOfEncode, EncodeOfDecode, ExpansionEncodes, ExpandOfShorten, ShortenOfExpand, BuildOfParts, PartsOfBuild, LegalCharted, ChartFilled}
 use Rattle.promises.proofs.Readings.{apart, legal-is, bits-is, out-is, half-is, eight-is, nine-is, seven}
 
 -- ---- round trips of the words, and refusals
@@ -131,6 +136,25 @@ shorten-of-expand h i l e =
     let m = legal-is (expanded h) i e in
     let s = shortened-one i h l m in
     (tried (partsOf i), ap ofShortened s, shortened-is i (tried (partsOf i)) s .smallest-one h l m)
+
+-- ---- five numbers
+
+itself : (p : Parts) → sameParts p p ≡ true
+itself p =
+    let eq : (n : ℕ) → eqb n n ≡ true = λ n. eq-eqb n n refl in
+    rw (eq (p .operation), eq (p .rd), eq (p .rs1), eq (p .rs2), eq (p .imm))
+
+pub build-of-parts : BuildOfParts
+build-of-parts i d s t = rw (lt-ltb _ 32 d, lt-ltb _ 32 s, lt-ltb _ 32 t, back i, itself (partsOf i))
+
+pub parts-of-build : PartsOfBuild
+parts-of-build p i e = go (registersOk p && sameParts (partsOf (built p)) p) refl e
+  where
+    go : (b : Bool) → (registersOk p && sameParts (partsOf (built p)) p) ≡ b → ofBuilt (cond b (Instruction (built p)) OutOfRange) ≡ given i → partsOf i ≡ p
+    go true t e =
+        let q : built p ≡ i = cc in
+        ap partsOf (sym q) ∙ parts-same (partsOf (built p)) p (and-right (registersOk p) (sameParts (partsOf (built p)) p) (holds _ t))
+    go false t e = absurd (apart (sym e))
 
 -- ---- the chart
 

@@ -1,19 +1,26 @@
--- What is promised of decoder, encoder, expander, shortener and chart, in the paper's numbers. Each statement is proved in proofs/Instructions.antt.
+-- What is promised of builder, decoder, encoder, expander, shortener and chart, in the paper's numbers. Each statement is proved in proofs/Instructions.antt.
 use mathlib.Core.Path.{_≡_}
 use mathlib.Core.Bool.{true, false}
 use mathlib.Core.Logic.{_↔_}
 use Prim.Native.Nat.{ℕ, _%_, _^_, _≤_, _<_}
 use Rattle.answers.specs.Answer.{Answer, given, refusedWith}
 use Rattle.isa.specs.declared.Inst.{Inst}
+use Rattle.isa.specs.declared.Parts.{Parts}
 use Rattle.isa.specs.Registers.{reg, register}
+use Rattle.isa.specs.Operations.{partsOf}
+use Rattle.isa.specs.Building.{instOf}
 use Rattle.isa.specs.Decoding.{decoded}
 use Rattle.isa.specs.Encoding.{inRange, encoded}
 use Rattle.isa.specs.Rvc.{expanded}
 use Rattle.isa.specs.Shortening.{shortened}
-use Rattle.isa.specs.Answers.{ofNamed, ofDecoded, ofEncoded, ofShortened}
+use Rattle.isa.specs.Answers.{ofNamed, ofBuilt, ofDecoded, ofEncoded, ofShortened}
 use Rattle.chart.specs.Chart.{charted, filled, count}
 
--- ---- the answers of the four functions, as their contracts give them
+-- ---- the answers of the five functions, as their contracts give them
+
+-- of five numbers: the operation's place in the paper's order, rd, rs1, rs2 and the immediate
+abbrev pub builds : Parts → Answer Inst
+builds p = ofBuilt (instOf p)
 
 abbrev pub decodes : ℕ → Answer Inst
 decodes w = ofDecoded (decoded w)
@@ -76,6 +83,14 @@ ExpandOfShorten = (i : Inst) (h : ℕ) → shortens i ≡ given h → (h < 2 ^ 1
 -- shortening what a halfword stands for gives a halfword, by the above the smallest with the same expansion
 abbrev pub ShortenOfExpand : Type 0
 ShortenOfExpand = (h : ℕ) (i : Inst) → h < 2 ^ 16 → expands h ≡ given i → (k : ℕ) × (shortens i ≡ given k) × (k ≤ h)
+
+-- five numbers and instructions undo each other: an instruction whose registers are below 32 comes back from its numbers
+abbrev pub BuildOfParts : Type 0
+BuildOfParts = (i : Inst) → partsOf i .rd < 32 → partsOf i .rs1 < 32 → partsOf i .rs2 < 32 → builds (partsOf i) ≡ given i
+
+-- .. and the numbers that an instruction comes from are its own, 0 for each operand that it does not have
+abbrev pub PartsOfBuild : Type 0
+PartsOfBuild = (p : Parts) (i : Inst) → builds p ≡ given i → partsOf i ≡ p
 
 -- ---- the chart
 

@@ -5,10 +5,11 @@ use isa::Inst;
 use isa::Parts;
 use isa::Shortened;
 use parts::parts_of;
+use parts::same_parts;
 ghost use mathlib.Core.Path.{_≡_};
 ghost use mathlib.Core.Bool.{cond};
 ghost use Rattle.isa.specs.Operations.{partsOf};
-ghost use Rattle.isa.specs.Shortening.{sameParts, means, stands, shortened};
+ghost use Rattle.isa.specs.Shortening.{means, stands, shortened};
 ghost use Rattle.isa.specs.declared.Shortened.the-variants.{Half, NoShortForm};
 ghost use Rattle.shortest.specs.Formats.{formCr, formCi, form16sp, formLwsp, formCss, formCiw, formCl, formCa, formCb, formCbi, formCj};
 ghost use Rattle.shortest.specs.Trial.{tryAddi, tryFor, tried};
@@ -183,13 +184,6 @@ fn try_for(operation: u8, rd: u32, rs1: u32, rs2: u32, imm: u32) -> u32
         39 => form_cr(0b1001, 0, 0, 0b10),
         _ => 0,
     }
-}
-
-fn same_parts(a: Parts, b: Parts) -> bool
-    ensures { λ r. ⌜ r ≡ sameParts a b ⌝ }
-{
-    (a.operation == b.operation)
-        & ((a.rd == b.rd) & ((a.rs1 == b.rs1) & ((a.rs2 == b.rs2) & (a.imm == b.imm))))
 }
 
 fn means_it(meaning: Decoded, i: Inst) -> bool

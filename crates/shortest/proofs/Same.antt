@@ -18,67 +18,11 @@ use Rattle.isa.specs.declared.ArithOp.the-variants.{Add, Sub, Sll, Slt, Sltu, X
 use Rattle.isa.specs.declared.MulDivOp.the-variants.{Mul, Mulh, Mulhsu, Mulhu, Div, Divu, Rem, Remu}
 use Rattle.isa.specs.declared.Parts.{Parts}
 use Rattle.isa.specs.Registers.{reg}
-use Rattle.isa.specs.Operations.{parts, partsOf}
-use Rattle.isa.specs.Shortening.{sameParts}
+use Rattle.isa.specs.Operations.{parts, partsOf, sameParts}
+use Rattle.isa.specs.Building.{operations, built}
 
--- the 48 operations at given operands
-abbrev pub operations : ℕ → ℕ → ℕ → ℕ → List (ℕ × Inst)
-operations d s t v =
-    (0, Lui (reg d) v)
-    ∷ (1, Auipc (reg d) v)
-    ∷ (2, Jal (reg d) v)
-    ∷ (3, Jalr (reg d) (reg s) v)
-    ∷ (4, Branch Beq (reg s) (reg t) v)
-    ∷ (5, Branch Bne (reg s) (reg t) v)
-    ∷ (6, Branch Blt (reg s) (reg t) v)
-    ∷ (7, Branch Bge (reg s) (reg t) v)
-    ∷ (8, Branch Bltu (reg s) (reg t) v)
-    ∷ (9, Branch Bgeu (reg s) (reg t) v)
-    ∷ (10, Load Lb (reg d) (reg s) v)
-    ∷ (11, Load Lh (reg d) (reg s) v)
-    ∷ (12, Load Lw (reg d) (reg s) v)
-    ∷ (13, Load Lbu (reg d) (reg s) v)
-    ∷ (14, Load Lhu (reg d) (reg s) v)
-    ∷ (15, Store Sb (reg s) (reg t) v)
-    ∷ (16, Store Sh (reg s) (reg t) v)
-    ∷ (17, Store Sw (reg s) (reg t) v)
-    ∷ (18, Imm Addi (reg d) (reg s) v)
-    ∷ (19, Imm Slti (reg d) (reg s) v)
-    ∷ (20, Imm Sltiu (reg d) (reg s) v)
-    ∷ (21, Imm Xori (reg d) (reg s) v)
-    ∷ (22, Imm Ori (reg d) (reg s) v)
-    ∷ (23, Imm Andi (reg d) (reg s) v)
-    ∷ (24, Shift Slli (reg d) (reg s) v)
-    ∷ (25, Shift Srli (reg d) (reg s) v)
-    ∷ (26, Shift Srai (reg d) (reg s) v)
-    ∷ (27, Arith Add (reg d) (reg s) (reg t))
-    ∷ (28, Arith Sub (reg d) (reg s) (reg t))
-    ∷ (29, Arith Sll (reg d) (reg s) (reg t))
-    ∷ (30, Arith Slt (reg d) (reg s) (reg t))
-    ∷ (31, Arith Sltu (reg d) (reg s) (reg t))
-    ∷ (32, Arith Xor (reg d) (reg s) (reg t))
-    ∷ (33, Arith Srl (reg d) (reg s) (reg t))
-    ∷ (34, Arith Sra (reg d) (reg s) (reg t))
-    ∷ (35, Arith Or (reg d) (reg s) (reg t))
-    ∷ (36, Arith And (reg d) (reg s) (reg t))
-    ∷ (37, Fence (reg d) (reg s) v)
-    ∷ (38, Ecall)
-    ∷ (39, Ebreak)
-    ∷ (40, MulDiv Mul (reg d) (reg s) (reg t))
-    ∷ (41, MulDiv Mulh (reg d) (reg s) (reg t))
-    ∷ (42, MulDiv Mulhsu (reg d) (reg s) (reg t))
-    ∷ (43, MulDiv Mulhu (reg d) (reg s) (reg t))
-    ∷ (44, MulDiv Div (reg d) (reg s) (reg t))
-    ∷ (45, MulDiv Divu (reg d) (reg s) (reg t))
-    ∷ (46, MulDiv Rem (reg d) (reg s) (reg t))
-    ∷ (47, MulDiv Remu (reg d) (reg s) (reg t))
-    ∷ []
-
-build : Parts → Inst
-build p = find Ecall (operations (p .rd) (p .rs1) (p .rs2) (p .imm)) (p .operation) (λ i. i)
-
-back : (i : Inst) → build (partsOf i) ≡ i
-unfolding build
+pub back : (i : Inst) → built (partsOf i) ≡ i
+unfolding built
 back (Lui d v) = refl
 back (Auipc d v) = refl
 back (Jal d v) = refl
@@ -128,7 +72,7 @@ back (MulDiv Divu d s t) = refl
 back (MulDiv Rem d s t) = refl
 back (MulDiv Remu d s t) = refl
 
-parts-same : (p q : Parts) → T (sameParts p q) → p ≡ q
+pub parts-same : (p q : Parts) → T (sameParts p q) → p ≡ q
 parts-same p q t =
     let t5 = eqb (p .imm) (q .imm) in
     let t4 = eqb (p .rs2) (q .rs2) && t5 in
@@ -150,7 +94,7 @@ pub same-parts : (i j : Inst) → T (sameParts (partsOf i) (partsOf j)) → part
 same-parts i j t = parts-same (partsOf i) (partsOf j) t
 
 pub same : (i j : Inst) → T (sameParts (partsOf i) (partsOf j)) → i ≡ j
-same i j t = sym (back i) ∙ ap build (same-parts i j t) ∙ back j
+same i j t = sym (back i) ∙ ap built (same-parts i j t) ∙ back j
 
 -- ---- what every instruction passes
 
@@ -168,7 +112,7 @@ found-passes f (r ∷ t) k h = go (found-passes f t k (and-right (f (r .1)) (pas
 
 -- a test that each operation passes, whatever its operands are
 pub each : (f : Inst → Bool) → ((d s t v : ℕ) → T (passes f (operations d s t v))) → (i : Inst) → T (f i)
-unfolding build
+unfolding built
 each f h i = let p = partsOf i in subst (λ j. T (f j)) (back i) (found-passes f (operations (p .rd) (p .rs1) (p .rs2) (p .imm)) (p .operation) (h (p .rd) (p .rs1) (p .rs2) (p .imm)))
 
 -- ---- what the operation alone decides
@@ -185,7 +129,7 @@ found-through f (r ∷ t) k = go (found-through f t k) (eqb k (r .0))
 pub by-operation : {B : Type 0} (f : Inst → B)
     → ((d s t v k : ℕ) → find (f Ecall) (operations d s t v) k f ≡ find (f Ecall) (operations 0 0 0 0) k f)
     → (i j : Inst) → partsOf i .operation ≡ partsOf j .operation → f i ≡ f j
-unfolding build
+unfolding built
 by-operation f blind i j e = at i ∙ ap (λ (k : ℕ). find (f Ecall) (operations 0 0 0 0) k f) e ∙ sym (at j)
   where
     at : (i : Inst) → f i ≡ find (f Ecall) (operations 0 0 0 0) (partsOf i .operation) f

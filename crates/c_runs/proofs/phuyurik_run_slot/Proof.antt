@@ -1,0 +1,13 @@
+-- `phuyurik_run_slot` meets its contract: what the resumed run answers decides. Assumes nothing.
+use borrow.Author.Needs.{needs}
+use Rattle.c_runs.proofs.phuyurik_run_slot.Statement.{statement}
+use Rattle.c_runs.proofs.phuyurik_run_slot.Tie as tie
+
+returns : tie.Need-returns
+returns c = rw (← c .before .before .before .before .before .before .before .before .before .run-slot .ensures, c .before .n .given .1)
+
+returns-2 : tie.Need-returns-2
+returns-2 c = rw (← c .before .before .before .before .before .before .before .before .before .before .run-slot .ensures, c .before .before .why .given .1, c .number .ensures)
+
+pub phuyurik-run-slot-spec : {M : Type 1} → statement M
+phuyurik-run-slot-spec = tie.close (tie.spec _ (λ c. search needs) (λ c. search needs) _ (λ c. search needs) (λ c. search needs) (λ c. search needs) (λ c. search needs) returns (λ c. search needs) (λ c. search needs) (λ c. search needs) returns-2)

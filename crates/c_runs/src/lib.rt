@@ -1,0 +1,151 @@
+// The C interface, steps, runs and slots. A state is lent as its four parts: pc, x1 to x31, the retired
+// count and the stop number.
+use answers::Check;
+use slots::Resumed;
+use state::State;
+ghost use mathlib.Core.Path.{_≡_};
+ghost use Rattle.state.specs.States.{state};
+ghost use Rattle.machine.specs.Steps.{world};
+ghost use Rattle.calls.specs.Calls.{reply};
+ghost use Rattle.c_runs.specs.Runs.{stepCall, runCall, writeCall, readCall, resumeCall};
+
+// One step. Refuses with 1, 2, 3 and 5.
+#[no_mangle]
+pub extern "C" fn phuyurik_step(
+    pc: &mut u32,
+    x: &mut [u32; 31],
+    count: &mut u64,
+    stop: &mut u8,
+    mem: &mut [u8],
+    row: &mut [u8],
+) -> u32
+    ensures { λ r. ⌜ (reply r (state (now (pc .exit)) (now (x .exit)) (now (count .exit)) (now (stop .exit))), now (mem .exit), now (row .exit)) ≡ stepCall (world (state (now (pc .entry)) (now (x .entry)) (now (count .entry)) (now (stop .entry))) (now (mem .entry)) (now (row .entry))) ⌝ }
+{
+    let registers = *x;
+    let s = State {
+        pc: *pc,
+        x: registers,
+        count: *count,
+        stop: *stop,
+    };
+    let done = machine::step(s, mem, row);
+    let check = done.check;
+    if let Check::Refused(why) = check {
+        return why.number() as u32;
+    }
+    let next = done.state;
+    let after = next.x;
+    *pc = next.pc;
+    *x = after;
+    *count = next.count;
+    *stop = next.stop;
+    0
+}
+
+// A run of at most budget steps. Refuses with 1, 2, 3 and 5.
+#[no_mangle]
+pub extern "C" fn phuyurik_run(
+    pc: &mut u32,
+    x: &mut [u32; 31],
+    count: &mut u64,
+    stop: &mut u8,
+    mem: &mut [u8],
+    row: &mut [u8],
+    budget: u64,
+    retired: &mut u64,
+) -> u32
+    ensures { λ r. ⌜ (reply r (state (now (pc .exit)) (now (x .exit)) (now (count .exit)) (now (stop .exit)), now (retired .exit)), now (mem .exit), now (row .exit)) ≡ runCall budget (world (state (now (pc .entry)) (now (x .entry)) (now (count .entry)) (now (stop .entry))) (now (mem .entry)) (now (row .entry))) (now (retired .entry)) ⌝ }
+{
+    let registers = *x;
+    let s = State {
+        pc: *pc,
+        x: registers,
+        count: *count,
+        stop: *stop,
+    };
+    let done = machine::run(s, mem, row, budget);
+    let check = done.check;
+    if let Check::Refused(why) = check {
+        return why.number() as u32;
+    }
+    let last = done.state;
+    let after = last.x;
+    *pc = last.pc;
+    *x = after;
+    *count = last.count;
+    *stop = last.stop;
+    *retired = done.retired;
+    0
+}
+
+// A state into slot k. Refuses with 4 and 5.
+#[no_mangle]
+pub extern "C" fn phuyurik_write_slot(
+    slots: &mut [u8],
+    k: usize,
+    pc: u32,
+    x: &[u32; 31],
+    count: u64,
+    stop: u8,
+) -> u32
+    ensures { λ r. ⌜ reply r (now (slots .exit)) ≡ writeCall k (state pc (now (x .entry)) count stop) (now (slots .entry)) ⌝ }
+{
+    let registers = *x;
+    let s = State {
+        pc,
+        x: registers,
+        count,
+        stop,
+    };
+    match slots::write_slot(slots, k, s) {
+        Check::Passed => 0,
+        Check::Refused(why) => why.number() as u32,
+    }
+}
+
+// The state in slot k. Refuses with 4 and 5.
+#[no_mangle]
+pub extern "C" fn phuyurik_read_slot(
+    slots: &[u8],
+    k: usize,
+    pc: &mut u32,
+    x: &mut [u32; 31],
+    count: &mut u64,
+    stop: &mut u8,
+) -> u32
+    ensures { λ r. ⌜ reply r (state (now (pc .exit)) (now (x .exit)) (now (count .exit)) (now (stop .exit))) ≡ readCall k (now (slots .entry)) (state (now (pc .entry)) (now (x .entry)) (now (count .entry)) (now (stop .entry))) ⌝ }
+{
+    let back = slots::read_slot(slots, k);
+    let check = back.check;
+    if let Check::Refused(why) = check {
+        return why.number() as u32;
+    }
+    let s = back.state;
+    let registers = s.x;
+    *pc = s.pc;
+    *x = registers;
+    *count = s.count;
+    *stop = s.stop;
+    0
+}
+
+// Reads slot k, runs it for at most budget steps and writes it back. Refuses with 1 to 5.
+#[no_mangle]
+pub extern "C" fn phuyurik_run_slot(
+    mem: &mut [u8],
+    row: &mut [u8],
+    slots: &mut [u8],
+    k: usize,
+    budget: u64,
+    retired: &mut u64,
+) -> u32
+    ensures { λ r. ⌜ (reply r (now (retired .exit)), now (mem .exit), now (row .exit), now (slots .exit)) ≡ resumeCall budget k (now (mem .entry)) (now (row .entry)) (now (slots .entry)) (now (retired .entry)) ⌝ }
+{
+    match slots::run_slot(mem, row, slots, k, budget) {
+        Resumed::Retired(n) => {
+            *retired = n;
+            0
+        }
+        Resumed::Refused(why) => why.number() as u32,
+    }
+}

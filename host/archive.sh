@@ -1,0 +1,62 @@
+#!/bin/sh
+# Proves the exports and writes target/staticlib/libphuyurik.a for the machine that this runs on.
+# The kit writes archives for x86-64. On Arm the kit's own compiler is asked for Arm code instead:
+# a folder stands in for the kit, all links but for the compiler, which drops the x86-64 target.
+set -eu
+cd "$(dirname "$0")/.."
+exports='c_codes c_texts c_runs'
+machine=$(uname -m)
+
+# link_all FROM TO EXCEPT: a link in TO for each entry of FROM but one
+link_all() {
+    for entry in "$1"/*; do
+        [ "${entry##*/}" = "$3" ] || ln -s "$entry" "$2/${entry##*/}"
+    done
+}
+
+# compiler FILE CLANG: a compiler that translates for this machine
+compiler() {
+    cat >"$1" <<EOF
+#!/bin/sh
+for word; do
+    shift
+    case \$word in
+    --target=x86_64* | -march=* | -mcpu=* | -mtune=*) ;;
+    *) set -- "\$@" "\$word" ;;
+    esac
+done
+exec "$2" --target=$machine-unknown-linux-gnu --no-default-config "\$@" -Wno-override-module
+EOF
+    chmod +x "$1"
+}
+
+# kit_for_this_machine: the folder that stands in for the kit
+kit_for_this_machine() {
+    kit=${RATTLE_HOME:-$(dirname "$(dirname "$(readlink -f "$(command -v rt)")")")}
+    tools=on/$machine/toolchain
+    stand=$PWD/target/kit
+    rm -rf "$stand"
+    mkdir -p "$stand/$tools/bin"
+    link_all "$kit" "$stand" on
+    link_all "$kit/on/$machine" "$stand/on/$machine" toolchain
+    link_all "$kit/$tools" "$stand/$tools" bin
+    link_all "$kit/$tools/bin" "$stand/$tools/bin" clang
+    compiler "$stand/$tools/bin/clang" "$kit/$tools/bin/clang"
+}
+
+if [ "$machine" != x86_64 ]; then
+    kit_for_this_machine
+    export RATTLE_HOME="$stand"
+fi
+for export in $exports; do
+    rt staticlib "$export"
+done
+
+# one archive of the three
+cd target/staticlib
+rm -rf objects libphuyurik.a
+mkdir objects
+for export in $exports; do
+    (cd objects && ar x "../lib$export.a")
+done
+ar rcs libphuyurik.a objects/*.o

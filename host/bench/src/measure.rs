@@ -1,0 +1,83 @@
+//! Runs a workload on every engine, in turn, and keeps each engine's best time.
+use crate::engines::{self, End, ENGINES};
+use crate::workloads::Workload;
+use std::time::Duration;
+
+pub struct Measured {
+    pub name: &'static str,
+    pub steps: u64,
+    /// One for each of `ENGINES`.
+    pub best: [Duration; 3],
+}
+
+/// The error says which engine ended differently, or that the recipe did not stop with ecall.
+pub fn measure(workload: &Workload, repeats: u32) -> Result<Measured, String> {
+    let mut best = [Duration::MAX; 3];
+    let mut agreed: Option<End> = None;
+    for _ in 0..repeats {
+        for (engine, best) in ENGINES.into_iter().zip(&mut best) {
+            let (end, time) = engines::run(engine, workload.image);
+            let first = agreed.get_or_insert_with(|| end.clone());
+            if let Some(what) = difference(first, &end) {
+                return Err(format!(
+                    "{}: {} ends with another {what} than {}",
+                    workload.name,
+                    engine.name(),
+                    ENGINES[0].name()
+                ));
+            }
+            *best = time.min(*best);
+        }
+    }
+    let end = agreed.ok_or("nothing was run")?;
+    if end.stop != phuyurik::Stop::Ecall.number() {
+        return Err(format!("{}: stop {}, not ecall", workload.name, end.stop));
+    }
+    Ok(Measured {
+        name: workload.name,
+        steps: end.count,
+        best,
+    })
+}
+
+fn difference(a: &End, b: &End) -> Option<&'static str> {
+    [
+        (a.pc != b.pc, "pc"),
+        (a.x != b.x, "register"),
+        (a.count != b.count, "count"),
+        (a.stop != b.stop, "stop"),
+        (a.retired != b.retired, "answer"),
+        (a.memory != b.memory, "memory"),
+        (a.row != b.row, "row"),
+    ]
+    .into_iter()
+    .find_map(|(differs, what)| differs.then_some(what))
+}
+
+#[cfg(test)]
+mod tests {
+    use super::*;
+    use crate::engines::Engine;
+
+    type Change = fn(&mut End);
+
+    #[test]
+    fn every_part_of_an_end_counts() {
+        let (end, _) = engines::run(Engine::PlainC, &[0x73, 0, 0, 0]);
+        assert_eq!(difference(&end, &end), None);
+        let changes: [(Change, &str); 7] = [
+            (|e| e.pc += 2, "pc"),
+            (|e| e.x[30] += 1, "register"),
+            (|e| e.count += 1, "count"),
+            (|e| e.stop += 1, "stop"),
+            (|e| e.retired += 1, "answer"),
+            (|e| e.memory[3] += 1, "memory"),
+            (|e| e.row[511] += 1, "row"),
+        ];
+        for (change, what) in changes {
+            let mut other = end.clone();
+            change(&mut other);
+            assert_eq!(difference(&end, &other), Some(what));
+        }
+    }
+}

@@ -1,0 +1,132 @@
+//! Malformed inputs: for each entry every set of faults that it can meet, so that the order of
+//! refusals is compared. The paper's answer is known beforehand: the lowest number.
+
+use crate::random::Random;
+use crate::scene::{self, Entry, Scene, RECORD};
+use crate::tally::{Check, Difference, Tally};
+use crate::{program, texts, words};
+
+pub fn round(tally: &mut Tally, random: &mut Random) -> Check {
+    let entries: [(Entry, &[u32]); 5] = [
+        (Entry::Step, &[1, 2, 3, 5]),
+        (Entry::Run, &[1, 2, 3, 5]),
+        (Entry::WriteSlot, &[4, 5]),
+        (Entry::ReadSlot, &[4, 5]),
+        (Entry::RunSlot, &[1, 2, 3, 4, 5]),
+    ];
+    for (entry, refusals) in entries {
+        for set in 0..1_u32 << refusals.len() {
+            let chosen = (0..)
+                .zip(refusals)
+                .filter(|(place, _)| set >> place & 1 == 1);
+            let faults: Vec<u32> = chosen.map(|(_, refusal)| *refusal).collect();
+            malformed(tally, random, entry, &faults)?;
+        }
+    }
+    for _ in 0..20 {
+        text_faults(tally, random)?;
+    }
+    Ok(())
+}
+
+fn malformed(tally: &mut Tally, random: &mut Random, entry: Entry, faults: &[u32]) -> Check {
+    let mut scene = scene::sound(random);
+    // the row's record before its length, so that a longer row keeps the bad record
+    for fault in faults.iter().rev() {
+        spoil(random, &mut scene, *fault);
+    }
+    let answer = scene::compare(tally, entry, &scene)?.answer;
+    if answer.err() == faults.first().copied() {
+        return Ok(());
+    }
+    Err(Difference(format!(
+        "{entry:?} with the faults {faults:?}: both answered {answer:?}"
+    )))
+}
+
+/// Makes a scene such that the entries which look there refuse it with this number.
+fn spoil(random: &mut Random, scene: &mut Scene, refusal: u32) {
+    match refusal {
+        1 => scene.mem.resize(random.length(65_537, 65_600), 0),
+        2 => scene
+            .row
+            .resize(random.pick(&[0, 8, 504, 511, 513, 520, 1024]), 0),
+        3 => spoil_row_record(random, &mut scene.row),
+        4 => spoil_slots(random, scene),
+        _ => {
+            spoil_state(random, scene);
+            for record in scene.slots.chunks_exact_mut(RECORD) {
+                spoil_record(random, record);
+            }
+        }
+    }
+}
+
+fn spoil_row_record(random: &mut Random, row: &mut [u8]) {
+    let anywhere = random.length(0, 63);
+    let place = 8 * random.pick(&[0, 63, anywhere]);
+    let record = &mut row[place..place + 8];
+    match random.below(3) {
+        0 => record[4] = random.length(2, 255) as u8,
+        1 => record[random.length(5, 7)] = random.length(1, 255) as u8,
+        _ => {
+            record[4] = 0;
+            record[random.length(0, 3)] = random.length(1, 255) as u8;
+        }
+    }
+}
+
+/// No such slot, or a length that is no multiple of 144; 144 x 2^60 is 0 in 64 bits.
+fn spoil_slots(random: &mut Random, scene: &mut Scene) {
+    let slots = scene.slots.len() / RECORD;
+    match random.below(6) {
+        0 => scene.k = slots,
+        1 => scene.k = slots + random.length(0, 1000),
+        2 => scene.k += 1 << 60,
+        3 => scene.k = usize::MAX - random.length(0, 3),
+        4 => scene.slots.clear(),
+        _ => {
+            let stray = random.length(1, RECORD - 1);
+            scene
+                .slots
+                .resize(scene.slots.len() + stray - RECORD * random.length(0, 1), 0);
+        }
+    }
+}
+
+fn spoil_state(random: &mut Random, scene: &mut Scene) {
+    if random.once_in(2) {
+        scene.state.pc |= 1;
+    } else {
+        scene.state.stop = random.length(11, 255) as u8;
+    }
+}
+
+fn spoil_record(random: &mut Random, record: &mut [u8]) {
+    match random.below(3) {
+        0 => record[0] |= 1,
+        1 => record[136] = random.length(11, 255) as u8,
+        _ => record[random.length(137, 143)] = random.length(1, 255) as u8,
+    }
+}
+
+/// Rooms too short or not, with bits or instructions that are none or not.
+fn text_faults(tally: &mut Tally, random: &mut Random) -> Check {
+    for shortest in [0, 24] {
+        let mut room = || {
+            let length = random.length(shortest, shortest + 23);
+            random.bytes(length)
+        };
+        let rooms = [room(), room(), room(), room(), room(), room()];
+        let legal = program::instruction(random);
+        let mut none = legal;
+        none.operation = 48 + random.word() % 48;
+        texts::word(tally, program::legal_word(random), &rooms[0])?;
+        texts::word(tally, words::any_word(random) & !3, &rooms[1])?;
+        texts::half(tally, program::legal_half(random), &rooms[2])?;
+        texts::half(tally, random.word() as u16 | 3, &rooms[3])?;
+        texts::instruction(tally, legal, &rooms[4])?;
+        texts::instruction(tally, none, &rooms[5])?;
+    }
+    Ok(())
+}

@@ -1,0 +1,216 @@
+//! Steps and runs: one operation on hostile values, walks, whole runs, runs cut into pieces.
+
+use crate::random::Random;
+use crate::scene::{self, compare, Entry, Scene, RECORD};
+use crate::tally::{Check, Difference, Tally};
+use second::op;
+
+/// Values at which slips of arithmetic show.
+const VALUES: [u32; 14] = [
+    0,
+    1,
+    2,
+    31,
+    32,
+    33,
+    0x7fff_fffe,
+    0x7fff_ffff,
+    0x8000_0000,
+    0x8000_0001,
+    0xaaaa_aaab,
+    0xffff_ffe0,
+    0xffff_fffe,
+    0xffff_ffff,
+];
+
+pub fn round(tally: &mut Tally, random: &mut Random) -> Check {
+    for operation in 0..48 {
+        for _ in 0..8 {
+            one_operation(tally, random, operation)?;
+        }
+    }
+    for _ in 0..40 {
+        walk(tally, random)?;
+        whole_run(tally, random)?;
+        cut_run(tally, random)?;
+        slots(tally, random)?;
+    }
+    Ok(())
+}
+
+/// Every operation on two registers, and every branch, on every pair of these values.
+pub fn all_edges(tally: &mut Tally) -> Check {
+    let mut scene = scene::sound(&mut Random::new(0));
+    (scene.state.pc, scene.state.count, scene.state.stop) = (0, 0, 0);
+    let on_two = (op::BEQ..=op::BGEU)
+        .chain(op::ADD..=op::AND)
+        .chain(op::MUL..=op::REMU);
+    for operation in on_two {
+        let is_branch = operation <= op::BGEU;
+        let inst = second::Inst {
+            operation,
+            rd: if is_branch { 0 } else { 3 },
+            rs1: 1,
+            rs2: 2,
+            imm: if is_branch { 64 } else { 0 },
+        };
+        scene.mem = second::encode(inst).unwrap_or(0).to_le_bytes().to_vec();
+        for (a, b) in VALUES.iter().flat_map(|a| VALUES.map(|b| (*a, b))) {
+            (scene.state.x[0], scene.state.x[1]) = (a, b);
+            compare(tally, Entry::Step, &scene)?;
+        }
+    }
+    Ok(())
+}
+
+/// One step of an operation, with registers that hold the values at which slips show.
+fn one_operation(tally: &mut Tally, random: &mut Random, operation: u32) -> Check {
+    let mut scene = scene::sound(random);
+    scene.mem.truncate(256);
+    if scene.mem.len() < 4 {
+        return Ok(());
+    }
+    let bits = any_of(random, operation);
+    let at = 2 * random.length(0, (scene.mem.len() - 4) / 2);
+    scene.mem[at..at + 4].copy_from_slice(&bits.to_le_bytes());
+    (scene.state.pc, scene.state.stop) = (at as u32, 0);
+    compare(tally, Entry::Step, &scene).map(|_| ())
+}
+
+/// The bits of an instruction of this operation, with any operands.
+fn any_of(random: &mut Random, operation: u32) -> u32 {
+    let plain = second::Inst {
+        operation,
+        ..second::Inst::default()
+    };
+    let operands = match operation {
+        op::ECALL | op::EBREAK => 0,
+        op::SLLI..=op::SRAI | op::ADD..=op::AND | op::MUL..=op::REMU => 0x01ff_8f80,
+        op::LUI..=op::JAL => 0xffff_ff80,
+        _ => 0xffff_8f80,
+    };
+    second::encode(plain).unwrap_or(0) | random.word() & operands
+}
+
+fn sound_or_calm(random: &mut Random) -> Scene {
+    if random.once_in(2) {
+        return scene::calm(random);
+    }
+    scene::sound(random)
+}
+
+/// Step after step, each compared.
+fn walk(tally: &mut Tally, random: &mut Random) -> Check {
+    let mut scene = sound_or_calm(random);
+    for _ in 0..random.length(1, 60) {
+        scene = compare(tally, Entry::Step, &scene)?.scene;
+    }
+    Ok(())
+}
+
+/// A run, and the same with huge budgets if it stops by itself.
+fn whole_run(tally: &mut Tally, random: &mut Random) -> Check {
+    let mut scene = sound_or_calm(random);
+    let after = compare(tally, Entry::Run, &scene)?.scene;
+    if after.state.stop != 0 {
+        for budget in [u64::MAX, u64::MAX - 1, 1 << 63, 1 << 32] {
+            scene.budget = budget;
+            compare(tally, Entry::Run, &scene)?;
+            compare(tally, Entry::RunSlot, &scene)?;
+        }
+    }
+    Ok(())
+}
+
+/// The second emulator's whole run against the proved one's in pieces, through a slot.
+fn cut_run(tally: &mut Tally, random: &mut Random) -> Check {
+    let scene = sound_or_calm(random);
+    let (mut whole, mut pieces) = (scene.clone(), scene.clone());
+    let answer = second::run(
+        &mut whole.state,
+        &mut whole.mem,
+        &mut whole.row,
+        scene.budget,
+    );
+    let written = second::write_slot(&mut whole.slots, scene.k, &whole.state);
+    written.map_err(|refusal| problem("write_slot", refusal))?;
+    let mut retired = 0;
+    for budget in cuts(random, scene.budget) {
+        retired += if random.once_in(2) {
+            piece_in_slot(&mut pieces, budget)?
+        } else {
+            piece_by_hand(&mut pieces, budget)?
+        };
+    }
+    let call = || format!("a run of {} in pieces: {:x?}", scene.budget, scene.state);
+    tally.steps += retired;
+    tally.same(call, Ok(retired), answer)?;
+    tally.same_bytes(call, &pieces.mem, &whole.mem)?;
+    tally.same_bytes(call, &pieces.row, &whole.row)?;
+    tally.same_bytes(call, &pieces.slots, &whole.slots)
+}
+
+/// Budgets whose sum is the given one, zeros among them.
+fn cuts(random: &mut Random, budget: u64) -> Vec<u64> {
+    let mut pieces = Vec::new();
+    let mut left = budget;
+    for _ in 0..random.length(0, 6) {
+        let piece = if random.once_in(4) {
+            0
+        } else {
+            random.below(left + 1)
+        };
+        pieces.push(piece);
+        left -= piece;
+    }
+    pieces.push(left);
+    pieces
+}
+
+fn piece_in_slot(scene: &mut Scene, budget: u64) -> Result<u64, Difference> {
+    let (mem, row, slots) = (&mut scene.mem, &mut scene.row, &mut scene.slots);
+    let answer = phuyurik::run_slot(mem, row, slots, scene.k, budget);
+    answer.map_err(|refusal| problem("run_slot", refusal.number()))
+}
+
+/// As `run_slot`: reads the slot, runs, writes the slot.
+fn piece_by_hand(scene: &mut Scene, budget: u64) -> Result<u64, Difference> {
+    let by_hand = |scene: &mut Scene| {
+        let mut state = phuyurik::read_slot(&scene.slots, scene.k)?;
+        let retired = phuyurik::run(&mut state, &mut scene.mem, &mut scene.row, budget)?;
+        phuyurik::write_slot(&mut scene.slots, scene.k, &state)?;
+        Ok(retired)
+    };
+    let answer: Result<u64, phuyurik::Refusal> = by_hand(scene);
+    answer.map_err(|refusal| problem("a piece", refusal.number()))
+}
+
+fn problem(what: &str, refusal: u32) -> Difference {
+    Difference(format!(
+        "{what} of a sound scene was refused with {refusal}"
+    ))
+}
+
+/// Slots read, written and run, with states and buffers of every kind.
+fn slots(tally: &mut Tally, random: &mut Random) -> Check {
+    let mut scene = scene::sound(random);
+    if random.once_in(2) {
+        let length = random.length(0, 4 * RECORD);
+        scene.slots = random.bytes(length);
+    }
+    if random.once_in(8) {
+        scene.slots.iter_mut().for_each(|byte| *byte = 0);
+    }
+    if random.once_in(4) {
+        scene.state.pc = random.word();
+        scene.state.stop = random.below(14) as u8;
+    }
+    if random.once_in(4) {
+        scene.k = random.pick(&[0, 1, 2, 3, 4, usize::MAX, 1 << 60, 1 << 63]);
+    }
+    compare(tally, Entry::RunSlot, &scene)?;
+    compare(tally, Entry::ReadSlot, &scene)?;
+    let written = compare(tally, Entry::WriteSlot, &scene)?.scene;
+    compare(tally, Entry::ReadSlot, &written)?;
+    compare(tally, Entry::RunSlot, &written).map(|_| ())
+}

@@ -1,0 +1,157 @@
+//! What was compared, and what was reached by it.
+
+use std::fmt::Debug;
+
+/// What differed, in words.
+pub struct Difference(pub String);
+
+pub type Check = Result<(), Difference>;
+
+#[derive(Default)]
+pub struct Tally {
+    pub comparisons: u64,
+    pub steps: u64,
+    /// How often a paused state came to each stop.
+    pub stops: [u64; 11],
+    /// How often each refusal was answered; the first place stays 0.
+    pub refusals: [u64; 10],
+}
+
+impl Tally {
+    /// Compares two answers; `call` says in words what was asked.
+    pub fn same<T: PartialEq + Debug>(
+        &mut self,
+        call: impl FnOnce() -> String,
+        proved: T,
+        second: T,
+    ) -> Check {
+        self.comparisons += 1;
+        if proved == second {
+            return Ok(());
+        }
+        let call = call();
+        Err(Difference(format!(
+            "{call}\n  phuyurik: {proved:x?}\n  second:   {second:x?}"
+        )))
+    }
+
+    /// As `same`, for bytes that are too many to show: shows where they begin to differ.
+    pub fn same_bytes(
+        &mut self,
+        call: impl FnOnce() -> String,
+        proved: &[u8],
+        second: &[u8],
+    ) -> Check {
+        self.comparisons += 1;
+        if proved == second {
+            return Ok(());
+        }
+        let shorter = proved.len().min(second.len());
+        let at = first_other(proved, second).unwrap_or(shorter);
+        let near = |bytes: &[u8]| {
+            let end = bytes.len().min(at + 16);
+            format!("{:02x?} of {} bytes", &bytes[at..end], bytes.len())
+        };
+        Err(Difference(format!(
+            "{}, bytes from {at} on\n  phuyurik: {}\n  second:   {}",
+            call(),
+            near(proved),
+            near(second)
+        )))
+    }
+
+    /// As `same`, for answers that may be refusals, which are counted.
+    pub fn same_answer<T: PartialEq + Debug>(
+        &mut self,
+        call: impl FnOnce() -> String,
+        proved: Result<T, phuyurik::Refusal>,
+        second: Result<T, u32>,
+    ) -> Check {
+        self.note_refusal(&second);
+        self.same(call, proved.map_err(phuyurik::Refusal::number), second)
+    }
+
+    pub fn note_refusal<T>(&mut self, answer: &Result<T, u32>) {
+        if let Err(number) = answer {
+            self.refusals[*number as usize] += 1;
+        }
+    }
+
+    /// The stops and refusals that were never reached; a full comparison has none.
+    pub fn missing(&self) -> Vec<String> {
+        let never = |kind: &'static str, counts: &[u64], first: usize| {
+            let zeros = (first..).zip(&counts[first..]).filter(|(_, &n)| n == 0);
+            zeros
+                .map(|(number, _)| format!("{kind} {number}"))
+                .collect()
+        };
+        let mut missing: Vec<String> = never("stop", &self.stops, 0);
+        missing.extend::<Vec<String>>(never("refusal", &self.refusals, 1));
+        missing
+    }
+
+    pub fn summary(&self, differences: u32, seed: u64) -> String {
+        let (comparisons, steps) = (grouped(self.comparisons), grouped(self.steps));
+        format!(
+            "compare: {comparisons} comparisons ({steps} steps), {differences} differences, \
+             seed {seed}, stops 0-10 reached: {}, refusals 1-9 reached: {}",
+            counts(&self.stops),
+            counts(&self.refusals[1..])
+        )
+    }
+}
+
+/// The first place at which two runs of bytes differ.
+pub fn first_other(left: &[u8], right: &[u8]) -> Option<usize> {
+    left.iter().zip(right).position(|(a, b)| a != b)
+}
+
+fn counts(numbers: &[u64]) -> String {
+    let numbers: Vec<String> = numbers.iter().map(|n| grouped(*n)).collect();
+    numbers.join(" ")
+}
+
+/// A number with a comma before each three digits.
+fn grouped(number: u64) -> String {
+    let digits = number.to_string();
+    let mut text = String::new();
+    for (place, digit) in digits.chars().enumerate() {
+        if place > 0 && (digits.len() - place).is_multiple_of(3) {
+            text.push(',');
+        }
+        text.push(digit);
+    }
+    text
+}
+
+#[cfg(test)]
+mod tests {
+    use super::*;
+
+    #[test]
+    fn numbers_are_grouped_by_three() {
+        let texts = [0, 12, 123, 1234, 123_456, 1_234_567].map(grouped);
+        assert_eq!(texts, ["0", "12", "123", "1,234", "123,456", "1,234,567"]);
+    }
+
+    #[test]
+    fn bytes_are_the_same_only_if_all_are() {
+        let mut tally = Tally::default();
+        let mut same = |a: &[u8], b: &[u8]| tally.same_bytes(String::new, a, b).is_ok();
+        assert!(same(&[], &[]) && same(&[1, 2, 3], &[1, 2, 3]));
+        assert!(!same(&[1, 2, 3], &[1, 2]) && !same(&[0; 40], &[0; 41]));
+        assert!(!same(&[0, 0, 1], &[0, 0, 2]));
+    }
+
+    #[test]
+    fn what_was_never_reached_is_missing() {
+        let mut tally = Tally {
+            stops: [1; 11],
+            refusals: [0, 1, 1, 1, 1, 1, 1, 1, 1, 1],
+            ..Tally::default()
+        };
+        assert!(tally.missing().is_empty());
+        (tally.stops[10], tally.refusals[9]) = (0, 0);
+        assert_eq!(tally.missing(), ["stop 10", "refusal 9"]);
+    }
+}

@@ -1,0 +1,146 @@
+//! The text of bits and instructions in rooms of any length, and the listing of images.
+
+use crate::lent::Lent;
+use crate::program::{self, Temper};
+use crate::random::Random;
+use crate::tally::{Check, Tally};
+use crate::words;
+use second::Inst;
+
+pub fn round(tally: &mut Tally, random: &mut Random) -> Check {
+    for _ in 0..500 {
+        let length = random.length(0, 60);
+        let room = random.bytes(length);
+        word(tally, words::any_word(random), &room)?;
+        half(tally, random.word() as u16, &room)?;
+        instruction(tally, words::any_instruction(random), &room)?;
+    }
+    for _ in 0..6 {
+        let image = image(random);
+        whole_listing(tally, random, &image)?;
+        for _ in 0..20 {
+            let from = any_place(random, image.len());
+            let length = random.length(0, 200);
+            page(tally, &image, from, &random.bytes(length))?;
+        }
+    }
+    Ok(())
+}
+
+/// The text of every halfword, in a room that is long enough.
+pub fn all_halfwords(tally: &mut Tally) -> Check {
+    for bits in 0..=u16::MAX {
+        half(tally, bits, &[b'.'; 30])?;
+    }
+    Ok(())
+}
+
+pub fn word(tally: &mut Tally, bits: u32, room: &[u8]) -> Check {
+    let (mut proved, mut second) = (Lent::new(room, room.len()), room.to_vec());
+    let answer = phuyurik::text_of_word(bits, proved.content());
+    let other = second::text_of_word(bits, &mut second);
+    let call = || format!("text_of_word({bits:#010x}) in a room of {}", room.len());
+    rooms(
+        tally,
+        call,
+        (answer, other),
+        (&proved.back()?, &second),
+        room,
+    )
+}
+
+pub fn half(tally: &mut Tally, bits: u16, room: &[u8]) -> Check {
+    let (mut proved, mut second) = (Lent::new(room, room.len()), room.to_vec());
+    let answer = phuyurik::text_of_half(bits, proved.content());
+    let other = second::text_of_half(bits, &mut second);
+    let call = || format!("text_of_half({bits:#06x}) in a room of {}", room.len());
+    rooms(
+        tally,
+        call,
+        (answer, other),
+        (&proved.back()?, &second),
+        room,
+    )
+}
+
+pub fn instruction(tally: &mut Tally, inst: Inst, room: &[u8]) -> Check {
+    let (mut proved, mut second) = (Lent::new(room, room.len()), room.to_vec());
+    let answer = phuyurik::text_of(words::to_proved(inst), proved.content());
+    let other = second::text_of(inst, &mut second);
+    let call = || format!("text_of({inst:x?}) in a room of {}", room.len());
+    rooms(
+        tally,
+        call,
+        (answer, other),
+        (&proved.back()?, &second),
+        room,
+    )
+}
+
+/// Compares two answers and the rooms as they were left; `before` is what a refusal must leave.
+fn rooms(
+    tally: &mut Tally,
+    call: impl Fn() -> String,
+    answers: (Result<usize, phuyurik::Refusal>, Result<usize, u32>),
+    rooms: (&[u8], &[u8]),
+    before: &[u8],
+) -> Check {
+    let refused = answers.1.is_err();
+    tally.same_answer(&call, answers.0, answers.1)?;
+    tally.same(&call, rooms.0, rooms.1)?;
+    if refused {
+        tally.same(|| format!("{}, refused", call()), rooms.0, before)?;
+    }
+    Ok(())
+}
+
+fn image(random: &mut Random) -> Vec<u8> {
+    let length = match random.below(24) {
+        0 => random.length(65_530, 65_536),
+        1 => random.length(65_537, 65_600),
+        2..=6 => random.length(0, 9),
+        _ => random.length(10, 1500),
+    };
+    if random.once_in(3) {
+        return random.bytes(length);
+    }
+    let mut image = program::code(random, length, Temper::Wild(10));
+    image.truncate(length);
+    image
+}
+
+fn any_place(random: &mut Random, length: usize) -> usize {
+    match random.below(6) {
+        0 => random.pick(&[length, length + 1, usize::MAX, 65_536, 1 << 32, 1 << 63]),
+        1 => length.saturating_sub(random.length(0, 5)),
+        _ => random.length(0, length),
+    }
+}
+
+fn page(tally: &mut Tally, image: &[u8], from: usize, room: &[u8]) -> Check {
+    let (mut proved, mut second) = (Lent::new(room, room.len()), room.to_vec());
+    let answer = phuyurik::list(image, from, proved.content());
+    let other = second::list(image, from, &mut second);
+    let (length, size) = (image.len(), room.len());
+    let call = || format!("list of {length} bytes from {from} in a room of {size}");
+    tally.same(call, answer, other)?;
+    tally.same_bytes(call, &proved.back()?, &second)
+}
+
+/// The listing as one text, and the same in pages of any length.
+fn whole_listing(tally: &mut Tally, random: &mut Random, image: &[u8]) -> Check {
+    let (proved, second) = (phuyurik::listing(image), second::listing(image));
+    let call = || format!("listing of {} bytes", image.len());
+    tally.same_bytes(call, proved.as_bytes(), second.as_bytes())?;
+    let (mut pages, mut next) = (Vec::new(), 0);
+    while next < image.len() {
+        let length = random.length(38, 400);
+        let room = random.bytes(length);
+        page(tally, image, next, &room)?;
+        let mut room = room;
+        let (written, after) = phuyurik::list(image, next, &mut room);
+        pages.extend_from_slice(&room[..written]);
+        next = after;
+    }
+    tally.same_bytes(call, &pages, second.as_bytes())
+}

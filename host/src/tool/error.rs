@@ -1,0 +1,42 @@
+//! Why a command failed: one line, and an exit code.
+use phuyurik::Refusal;
+use std::fmt;
+use std::path::{Path, PathBuf};
+
+#[derive(Debug)]
+pub enum Error {
+    /// The command line is wrong.
+    Usage(String),
+    /// A file is missing, locked, damaged, of another run, or cannot be read or written.
+    File(PathBuf, String),
+    /// The proved library refused what a file holds.
+    Refused(PathBuf, Refusal),
+    /// The demo saw something else than it promises.
+    Fact(String),
+}
+
+impl Error {
+    pub fn file(path: &Path, why: impl ToString) -> Error {
+        Error::File(path.to_path_buf(), why.to_string())
+    }
+
+    pub fn exit_code(&self) -> u8 {
+        match self {
+            Error::Fact(_) => 1,
+            Error::Usage(_) => 2,
+            Error::File(..) => 3,
+            Error::Refused(_, refusal) => 30 + *refusal as u8,
+        }
+    }
+}
+
+impl fmt::Display for Error {
+    fn fmt(&self, f: &mut fmt::Formatter) -> fmt::Result {
+        match self {
+            Error::Usage(why) => write!(f, "{why} (see phuyurik --help)"),
+            Error::File(path, why) => write!(f, "{}: {why}", path.display()),
+            Error::Refused(path, refusal) => write!(f, "{}: {refusal}", path.display()),
+            Error::Fact(what) => write!(f, "demo: {what}"),
+        }
+    }
+}

@@ -1,0 +1,103 @@
+//! What people read: the listing, a row, a slot, the facts of a run.
+use super::error::Error;
+use super::files;
+use super::journal;
+use super::run::{burnt_words, Outcome};
+use phuyurik::{read_slot, State, Stop, LONGEST_MEMORY, ROW};
+use std::fmt::Write;
+use std::path::Path;
+
+const WINDOW: u32 = 0x8000_0000;
+
+pub fn list(image: &Path) -> Result<String, Error> {
+    let image = files::read(image, LONGEST_MEMORY + 1)?;
+    Ok(phuyurik::listing(&image))
+}
+
+fn both(value: u32) -> String {
+    format!("{value} (0x{value:08x})")
+}
+
+pub fn row(path: &Path) -> Result<String, Error> {
+    let mut row = files::read(path, ROW + 1)?;
+    // Whether it is a row is the library's to say: a run of budget 0.
+    phuyurik::run(&mut State::fresh(), &mut [], &mut row, 0)
+        .map_err(|refusal| Error::Refused(path.to_path_buf(), refusal))?;
+    let path = files::canonical(path)?;
+    if journal::journal_of(&path).exists() {
+        say_unsettled(&path);
+    }
+    Ok(row_text(&row))
+}
+
+fn say_unsettled(row: &Path) {
+    eprintln!(
+        "phuyurik: note: {}: a save is under way or was cut short; shown is what the file holds",
+        row.display()
+    );
+}
+
+pub fn row_text(row: &[u8]) -> String {
+    let words = burnt_words(row);
+    let mut text = String::new();
+    for (index, value) in &words {
+        let address = WINDOW + 4 * *index as u32;
+        writeln!(text, "word {index:>2} at 0x{address:08x}: {}", both(*value))
+            .expect("a string takes all");
+    }
+    let blank = row.len() / 8 - words.len();
+    text + &format!("{} burnt, {blank} blank\n", words.len())
+}
+
+pub fn slot(path: &Path, k: usize) -> Result<String, Error> {
+    let slots = files::read(path, usize::MAX)?;
+    let state =
+        read_slot(&slots, k).map_err(|refusal| Error::Refused(path.to_path_buf(), refusal))?;
+    let path = files::canonical(path)?;
+    let remark = files::read_if_there(&files::beside(&path, ".lock"), usize::MAX)?;
+    let last = journal::path_from(&remark.unwrap_or_default());
+    if last.is_absolute() && journal::journal_of(&last).exists() {
+        say_unsettled(&last);
+    }
+    Ok(slot_text(&state))
+}
+
+pub fn slot_text(state: &State) -> String {
+    let mut text = format!("pc {}\n", both(state.pc));
+    for (at, value) in state.x.iter().enumerate() {
+        if *value != 0 {
+            text += &format!("x{} {}\n", at + 1, both(*value));
+        }
+    }
+    text + &format!("count {}\n{}\n", state.count, stop_text(state.stop))
+}
+
+fn stop_text(number: u8) -> String {
+    let stop = Stop::from_number(number).expect("the library gave a state that is not malformed");
+    format!("stop {number}: {stop}")
+}
+
+/// 0 for ecall and for a pause, which was asked for by the budget.
+pub fn exit_code(stop: u8) -> u8 {
+    match stop {
+        0 | 1 => 0,
+        _ => 10 + stop,
+    }
+}
+
+pub fn facts(done: &Outcome) -> String {
+    let state = &done.state;
+    let mut text = format!("retired {} in this run\n", done.retired);
+    text += &format!("count {}\n", state.count);
+    text += &format!("{}\n", stop_text(state.stop));
+    text += &format!("pc {}\n", both(state.pc));
+    text += &match done.burnt.len() {
+        0 => "no word burnt in this run\n".to_string(),
+        1 => "1 word burnt in this run\n".to_string(),
+        many => format!("{many} words burnt in this run\n"),
+    };
+    for (index, value) in &done.burnt {
+        text += &format!("word {index} burnt with {}\n", both(*value));
+    }
+    text
+}

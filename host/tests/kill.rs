@@ -1,0 +1,313 @@
+//! Runs that are killed at random moments and carried on: nothing is lost, and nothing done twice.
+//! `PHUYURIK_KILLS` says how many kills must hit (200 if it is not set).
+mod common;
+
+use common::Folder;
+use phuyurik::{State, Stop, RECORD, ROW};
+use std::collections::BTreeMap;
+use std::fs;
+use std::os::unix::ffi::OsStrExt;
+use std::os::unix::process::ExitStatusExt;
+use std::path::PathBuf;
+use std::process::{Command, ExitStatus, Stdio};
+use std::time::{Duration, Instant};
+
+/// An instruction's bits, as GNU as has them.
+enum Bits {
+    Word(u32),
+    Half(u16),
+}
+use Bits::{Half, Word};
+
+/// Stirs 2,048 bytes of memory all the time, and burns a word after every 8,192 rounds: 30 words
+/// over 2.9 million steps.
+const RECIPE: [Bits; 21] = [
+    Word(0x800003b7), //       lui    x7,0x80000   the next word to burn
+    Half(0x4479),     //       c.li   x8,30        words to come
+    Word(0x123454b7), //       lui    x9,0x12345   what is stirred in
+    Word(0x00002537), // word: lui    x10,2        rounds to come
+    Word(0x00d49593), // stir: slli   x11,x9,13
+    Word(0x00b4c4b3), //       xor    x9,x9,x11
+    Word(0x0114d593), //       srli   x11,x9,17
+    Word(0x00b4c4b3), //       xor    x9,x9,x11
+    Word(0x00549593), //       slli   x11,x9,5
+    Word(0x00b4c4b3), //       xor    x9,x9,x11
+    Word(0x7fc4f613), //       andi   x12,x9,0x7fc
+    Word(0x08062683), //       lw     x13,128(x12)
+    Word(0x009686b3), //       add    x13,x13,x9
+    Word(0x08d62023), //       sw     x13,128(x12)
+    Half(0x157d),     //       c.addi x10,-1
+    Word(0xfc051be3), //       bne    x10,x0,stir
+    Word(0x0093a023), //       sw     x9,0(x7)
+    Half(0x0391),     //       c.addi x7,4
+    Half(0x147d),     //       c.addi x8,-1
+    Half(0xf079),     //       c.bnez x8,word
+    Word(0x00000073), //       ecall
+];
+const MEMORY: usize = 128 + 2048;
+const WORDS: usize = 30;
+const ROUNDS: usize = 8192;
+/// The ecall stops, so it does not retire.
+const STEPS: u64 = 3 + (WORDS * (ROUNDS * 12 + 5)) as u64;
+
+const PIECE: u64 = 100_000;
+const SLOT: usize = 1;
+
+/// State, memory and row of one step.
+#[derive(Clone, Debug, PartialEq)]
+struct Moment {
+    record: Vec<u8>,
+    memory: Vec<u8>,
+    row: Vec<u8>,
+}
+
+impl Moment {
+    /// The first `count` steps, uncut.
+    fn at(count: u64) -> Moment {
+        let mut memory = image();
+        let mut row = vec![0; ROW];
+        let mut record = vec![0; RECORD];
+        let mut state = State::fresh();
+        phuyurik::run(&mut state, &mut memory, &mut row, count).expect("not refused");
+        phuyurik::write_slot(&mut record, 0, &state).expect("a sound state");
+        Moment {
+            record,
+            memory,
+            row,
+        }
+    }
+
+    fn count(&self) -> u64 {
+        u64::from_le_bytes(self.record[128..136].try_into().expect("8 bytes"))
+    }
+}
+
+fn image() -> Vec<u8> {
+    let mut image = Vec::new();
+    for bits in &RECIPE {
+        match bits {
+            Word(word) => image.extend_from_slice(&word.to_le_bytes()),
+            Half(half) => image.extend_from_slice(&half.to_le_bytes()),
+        }
+    }
+    image.resize(MEMORY, 0);
+    image
+}
+
+/// What the recipe burns, worked out here.
+fn burnt_row() -> Vec<u8> {
+    let mut row = vec![0; ROW];
+    let mut stirred: u32 = 0x1234_5000;
+    for word in row.chunks_exact_mut(8).take(WORDS) {
+        for _ in 0..ROUNDS {
+            stirred ^= stirred << 13;
+            stirred ^= stirred >> 17;
+            stirred ^= stirred << 5;
+        }
+        word[..4].copy_from_slice(&stirred.to_le_bytes());
+        word[4] = 1;
+    }
+    row
+}
+
+/// Xorshift with a fixed seed: the same delays in every test.
+struct Random(u64);
+
+impl Random {
+    fn below(&mut self, limit: u64) -> u64 {
+        self.0 ^= self.0 << 13;
+        self.0 ^= self.0 >> 7;
+        self.0 ^= self.0 << 17;
+        self.0 % limit
+    }
+}
+
+/// The fields of a file that the tool seals; its own reader, apart from the tool's.
+fn fields(bytes: &[u8]) -> Vec<Vec<u8>> {
+    let mut rest = &bytes[8..bytes.len() - 8];
+    let mut fields = Vec::new();
+    while let Some((length, after)) = rest.split_first_chunk::<4>() {
+        let (field, after) = after.split_at(u32::from_le_bytes(*length) as usize);
+        fields.push(field.to_vec());
+        rest = after;
+    }
+    fields
+}
+
+/// What the files of a part hold after a kill.
+enum Found {
+    /// The run's start was not saved yet.
+    Nothing,
+    /// In the journal, to be carried out by the next run.
+    Journal(Moment),
+    Files(Moment),
+}
+
+struct Stage {
+    folder: Folder,
+    /// The moments that may be saved, by their count.
+    moments: BTreeMap<u64, Moment>,
+    end: Moment,
+    random: Random,
+    kills: u64,
+    /// Kills that hit between the journal's writing and its removal.
+    in_a_save: u64,
+    longest_delay: Duration,
+}
+
+impl Stage {
+    fn new() -> Stage {
+        let folder = Folder::new();
+        fs::write(folder.path().join("stir.bin"), image()).expect("written");
+        let mut slots = vec![0x5B; 3 * RECORD];
+        slots[SLOT * RECORD..][..RECORD].fill(0);
+        fs::write(folder.path().join("slots"), slots).expect("written");
+        let ends = (0..=STEPS / PIECE).map(|piece| piece * PIECE);
+        let end = Moment::at(u64::MAX);
+        let mut moments: BTreeMap<u64, Moment> =
+            ends.map(|count| (count, Moment::at(count))).collect();
+        moments.insert(end.count(), end.clone());
+        Stage {
+            folder,
+            moments,
+            end,
+            random: Random(0x7068_7579_7572_696b),
+            kills: 0,
+            in_a_save: 0,
+            longest_delay: Duration::ZERO,
+        }
+    }
+
+    fn file(&self, name: &str) -> PathBuf {
+        self.folder.path().join(name)
+    }
+
+    /// Starts the tool, kills it after a random time, and tells how it ended.
+    fn killed(&mut self, row: &str, resume: bool) -> ExitStatus {
+        let limit = self.longest_delay.as_micros() as u64;
+        let delay = Duration::from_micros(self.random.below(limit));
+        let mut child = self.tool(row, resume, u64::MAX).spawn().expect("started");
+        std::thread::sleep(delay);
+        child.kill().expect("killed, or over already");
+        child.wait().expect("over")
+    }
+
+    fn tool(&self, row: &str, resume: bool, budget: u64) -> Command {
+        let files = format!("stir.bin --row {row} --slots slots --slot {SLOT}");
+        let resume = if resume { "--resume" } else { "" };
+        let line = format!("run {files} --budget {budget} --piece {PIECE} {resume}");
+        let mut command = self.folder.tool(&line);
+        command.stdout(Stdio::null()).stderr(Stdio::null());
+        command
+    }
+
+    fn found(&self, row: &str) -> Found {
+        if let Ok(journal) = fs::read(self.file(&format!("{row}.journal"))) {
+            let fields = fields(&journal);
+            return Found::Journal(Moment {
+                record: fields[5].clone(),
+                row: fields[6].clone(),
+                memory: fields[7].clone(),
+            });
+        }
+        let memory = match fs::read(self.file("slots.1.memory")) {
+            Ok(bytes) => fields(&bytes),
+            Err(_) => return Found::Nothing,
+        };
+        let slots = fs::read(self.file("slots")).expect("there");
+        let record = slots[SLOT * RECORD..][..RECORD].to_vec();
+        if memory[0] != self.file(row).as_os_str().as_bytes() {
+            // The slot still has the end of the run before, all of it.
+            assert!(record == self.end.record && memory[4] == self.end.memory);
+            assert!(!self.file(row).exists(), "a row without its run");
+            return Found::Nothing;
+        }
+        Found::Files(Moment {
+            record,
+            row: fs::read(self.file(row)).expect("there"),
+            memory: memory[4].clone(),
+        })
+    }
+
+    /// The count of the saved moment, which must be exactly that of the uncut run; nothing before
+    /// the first is saved.
+    fn checked(&mut self, row: &str) -> Option<u64> {
+        let moment = match self.found(row) {
+            Found::Nothing => return None,
+            Found::Journal(moment) => {
+                self.in_a_save += 1;
+                moment
+            }
+            Found::Files(moment) => moment,
+        };
+        let count = moment.count();
+        let uncut = self.moments.get(&count).expect("the end of a piece");
+        assert!(*uncut == moment, "a mixture of moments at count {count}");
+        Some(count)
+    }
+
+    /// One part, from its start to the recipe's end.
+    fn whole_run(&mut self, row: &str) {
+        let mut saved = None;
+        loop {
+            let status = self.killed(row, saved.is_some());
+            if status.signal() != Some(9) {
+                assert_eq!(status.code(), Some(0), "the tool's own end");
+                break;
+            }
+            self.kills += 1;
+            let now = self.checked(row);
+            assert!(
+                now >= saved,
+                "{now:?} after {saved:?}: a saved step is lost"
+            );
+            saved = now;
+            if self.kills.is_multiple_of(8) && saved.is_some() {
+                self.settles_at(row, saved);
+            }
+        }
+        self.is_at_its_end(row);
+    }
+
+    /// A run of budget 0 puts the saved moment into its files, and does nothing else.
+    fn settles_at(&mut self, row: &str, saved: Option<u64>) {
+        let status = self.tool(row, true, 0).status().expect("started");
+        assert_eq!(status.code(), Some(0));
+        assert!(matches!(self.found(row), Found::Files(_)));
+        assert_eq!(self.checked(row), saved);
+    }
+
+    fn is_at_its_end(&self, row: &str) {
+        let Found::Files(moment) = self.found(row) else {
+            panic!("the last save was not carried out");
+        };
+        assert!(moment == self.end, "the end differs from the uncut run's");
+        let slots = fs::read(self.file("slots")).expect("there");
+        let (before, after) = (&slots[..SLOT * RECORD], &slots[(SLOT + 1) * RECORD..]);
+        assert!(before.iter().chain(after).all(|byte| *byte == 0x5B));
+    }
+}
+
+#[test]
+fn killed_runs_end_as_the_uncut_run() {
+    let wanted = std::env::var("PHUYURIK_KILLS").unwrap_or_else(|_| "200".to_string());
+    let wanted: u64 = wanted.parse().expect("PHUYURIK_KILLS is a number");
+    let mut stage = Stage::new();
+    assert_eq!(stage.end.count(), STEPS);
+    assert_eq!(stage.end.record[136], Stop::Ecall.number());
+    assert_eq!(stage.end.row, burnt_row());
+    let clock = Instant::now();
+    let status = stage.tool("uncut", false, u64::MAX).status();
+    assert_eq!(status.expect("started").code(), Some(0));
+    stage.is_at_its_end("uncut");
+    // The whole run has some 30 saves; a delay of a few of them lets every attempt come forward.
+    stage.longest_delay = clock.elapsed() / 15 + Duration::from_millis(5);
+    let mut runs = 0;
+    while stage.kills < wanted {
+        assert!(runs < 10 + wanted, "only {} kills hit", stage.kills);
+        runs += 1;
+        stage.whole_run(&format!("part-{runs}"));
+    }
+    let (kills, in_a_save) = (stage.kills, stage.in_a_save);
+    println!("{kills} kills, {runs} whole runs, 0 differences ({in_a_save} kills within a save)");
+}

@@ -1,0 +1,537 @@
+//! The tool as it is called: what it writes, what it leaves in the files, and its exit codes.
+mod common;
+
+use common::Folder;
+use phuyurik::{RECORD, ROW};
+use std::fs;
+use std::io::Read;
+use std::process::Stdio;
+use std::time::{Duration, Instant};
+
+const PAPER: [u8; 14] = [
+    0x9D, 0x42, 0x37, 0x03, 0x00, 0x80, 0x23, 0x20, 0x53, 0x00, 0x73, 0x00, 0x00, 0x00,
+];
+/// `jal x0,0`: it never ends.
+const ENDLESS: [u8; 4] = [0x6F, 0x00, 0x00, 0x00];
+const FILES: &str = "--row part.row --slots line.slots";
+
+/// What a call of the tool gave.
+struct Answer {
+    code: i32,
+    out: String,
+    err: String,
+}
+
+trait Bench {
+    fn put(&self, name: &str, bytes: &[u8]);
+    fn get(&self, name: &str) -> Vec<u8>;
+    fn has(&self, name: &str) -> bool;
+    fn call(&self, line: &str) -> Answer;
+    fn run(&self, more: &str) -> Answer;
+    fn fails(&self, line: &str, code: i32, words: &[&str]);
+}
+
+impl Bench for Folder {
+    fn put(&self, name: &str, bytes: &[u8]) {
+        fs::write(self.path().join(name), bytes).expect("written");
+    }
+
+    fn get(&self, name: &str) -> Vec<u8> {
+        fs::read(self.path().join(name)).expect(name)
+    }
+
+    fn has(&self, name: &str) -> bool {
+        self.path().join(name).exists()
+    }
+
+    fn call(&self, line: &str) -> Answer {
+        let done = self.tool(line).output().expect("started");
+        Answer {
+            code: done.status.code().expect("it ends by itself"),
+            out: String::from_utf8(done.stdout).expect("text"),
+            err: String::from_utf8(done.stderr).expect("text"),
+        }
+    }
+
+    /// The recipe `trim.bin` on the usual files.
+    fn run(&self, more: &str) -> Answer {
+        self.call(&format!("run trim.bin {FILES} {more}"))
+    }
+
+    /// One clear line on standard error that has these words in it, and nothing else.
+    fn fails(&self, line: &str, code: i32, words: &[&str]) {
+        let answer = self.call(line);
+        assert_eq!((answer.code, &*answer.out), (code, ""), "{line}");
+        let lines: Vec<&str> = answer.err.lines().collect();
+        assert_eq!(lines.len(), 1, "{line}: {}", answer.err);
+        for word in words {
+            assert!(lines[0].contains(word), "{line}: {}", lines[0]);
+        }
+    }
+}
+
+fn with_paper() -> Folder {
+    let folder = Folder::new();
+    folder.put("trim.bin", &PAPER);
+    folder
+}
+
+/// A row with word 0 burnt with 7, and nothing else.
+fn burnt_row() -> Vec<u8> {
+    let mut row = vec![0; ROW];
+    row[..5].copy_from_slice(&[7, 0, 0, 0, 1]);
+    row
+}
+
+#[test]
+fn help_and_version() {
+    let folder = Folder::new();
+    for line in [
+        "--help",
+        "run --help",
+        "list --help",
+        "row x --help",
+        "slot -h",
+        "demo --help",
+    ] {
+        let answer = folder.call(line);
+        assert_eq!((answer.code, &*answer.err), (0, ""), "{line}");
+        assert!(answer.out.starts_with("Usage: phuyurik "), "{line}");
+        assert!(answer.out.contains("Exit codes:"), "{line}");
+        assert!(answer.out.lines().all(|line| line.len() <= 90), "{line}");
+    }
+    let version = format!("phuyurik {}\n", env!("CARGO_PKG_VERSION"));
+    assert_eq!(folder.call("--version").out, version);
+}
+
+#[test]
+fn wrong_usage_is_2() {
+    let folder = with_paper();
+    folder.fails("", 2, &["no command", "--help"]);
+    folder.fails("burn", 2, &["burn"]);
+    folder.fails("list", 2, &["IMAGE"]);
+    folder.fails("slot line.slots x", 2, &["K", "x"]);
+    let line = format!("run trim.bin {FILES} --slot 0");
+    folder.fails(&line, 2, &["--budget"]);
+    folder.fails(&format!("{line} --budget -1"), 2, &["--budget", "-1"]);
+    folder.fails(&format!("{line} --budget 1 --piece 0"), 2, &["--piece"]);
+    let same = "run trim.bin --row a --slots ./a --slot 0 --budget 1";
+    folder.fails(same, 2, &["files of their own"]);
+    let same = "run trim.bin --row trim.bin --slots a --slot 0 --budget 1";
+    folder.fails(same, 2, &["files of their own"]);
+    assert!(!folder.has("a") && !folder.has("part.row"));
+}
+
+#[test]
+fn the_listing_is_the_papers() {
+    let folder = with_paper();
+    let paper = "00000000 429d c:addi x5,x0,7\n00000002 80000337 lui x6,524288\n\
+                 00000006 00532023 sw x5,0(x6)\n0000000a 00000073 ecall\n";
+    assert_eq!(folder.call("list trim.bin").out, paper);
+    folder.put("odd.bin", &[0xFF, 0xFF, 0x01]);
+    let odd = "00000000 ffff ?\n00000002 01 ?\n";
+    assert_eq!(folder.call("list odd.bin").out, odd);
+    folder.put("none.bin", &[]);
+    assert_eq!(folder.call("list none.bin").out, "");
+    folder.put("long.bin", &vec![0; 65_537]);
+    assert_eq!(folder.call("list long.bin").out, "too long\n");
+    folder.put("full.bin", &vec![0; 65_536]);
+    let full = folder.call("list full.bin").out;
+    assert_eq!(full.lines().count(), 32_768);
+    assert!(full.ends_with("\n0000fffe 0000 ?\n"));
+}
+
+#[test]
+fn a_reader_that_goes_away_is_no_error() {
+    let folder = Folder::new();
+    folder.put("full.bin", &vec![0; 65_536]);
+    let mut command = folder.tool("list full.bin");
+    command.stdout(Stdio::piped()).stderr(Stdio::piped());
+    let mut child = command.spawn().expect("started");
+    drop(child.stdout.take());
+    let mut err = String::new();
+    let mut stderr = child.stderr.take().expect("piped");
+    stderr.read_to_string(&mut err).expect("text");
+    assert_eq!(child.wait().expect("over").code(), Some(0));
+    assert_eq!(err, "");
+}
+
+/// Cards 11 and 12 of the paper, through the files.
+#[test]
+fn the_papers_recipe_is_run_and_started_anew() {
+    let folder = with_paper();
+    let first = folder.run("--slot 0 --budget 100");
+    let facts = "retired 3 in this run\ncount 3\nstop 1: ecall\npc 10 (0x0000000a)\n\
+                 1 word burnt in this run\nword 0 burnt with 7 (0x00000007)\n";
+    assert_eq!((first.code, &*first.out), (0, facts));
+    assert!(first.err.contains("part.row was not there: a new part"));
+    assert_eq!(folder.get("part.row"), burnt_row());
+    let row = "word  0 at 0x80000000: 7 (0x00000007)\n1 burnt, 63 blank\n";
+    assert_eq!(folder.call("row part.row").out, row);
+    let slot = "pc 10 (0x0000000a)\nx5 7 (0x00000007)\nx6 2147483648 (0x80000000)\n\
+                count 3\nstop 1: ecall\n";
+    assert_eq!(folder.call("slot line.slots 0").out, slot);
+    let again = folder.run("--slot 0 --budget 100");
+    let facts = "retired 2 in this run\ncount 2\nstop 9: word already burnt\n\
+                 pc 6 (0x00000006)\nno word burnt in this run\n";
+    assert_eq!((again.code, &*again.out), (19, facts));
+    assert_eq!(again.err, "");
+    assert_eq!(folder.get("part.row"), burnt_row());
+}
+
+#[test]
+fn a_budget_used_up_is_a_pause_and_the_run_is_resumed() {
+    let folder = with_paper();
+    let resume = "--slot 2 --budget 1 --resume";
+    assert_eq!(folder.run("--slot 2 --budget 0").code, 0);
+    assert_eq!(folder.get("line.slots"), vec![0; 3 * RECORD]);
+    for count in 1..=3 {
+        let piece = folder.run(resume);
+        let facts = format!("retired 1 in this run\ncount {count}\nstop 0: paused, can go on\n");
+        assert_eq!(piece.code, 0);
+        assert!(piece.out.starts_with(&facts), "{}", piece.out);
+        assert_eq!(piece.out.contains("word 0 burnt with 7"), count == 3);
+    }
+    assert_eq!(folder.get("part.row"), burnt_row());
+    for _ in 0..2 {
+        let end = folder.run(resume);
+        let facts = "retired 0 in this run\ncount 3\nstop 1: ecall\n";
+        assert_eq!(end.code, 0);
+        assert!(end.out.starts_with(facts), "{}", end.out);
+    }
+    assert_eq!(folder.get("part.row"), burnt_row());
+    assert_eq!(folder.get("line.slots")[..2 * RECORD], [0; 2 * RECORD]);
+}
+
+#[test]
+fn a_stop_is_10_and_its_number() {
+    let stops: [(&[u8], i32); 7] = [
+        (&[0x02, 0x90], 12),             // c.ebreak
+        (&[0x00, 0x00], 13),             // no instruction
+        (&[], 14),                       // nothing to fetch
+        (&[0x83, 0x12, 0x10, 0x00], 15), // lh x5,1(x0)
+        (&[0x83, 0x22, 0xC0, 0xFF], 16), // lw x5,-4(x0)
+        (&[0xA3, 0x10, 0x00, 0x00], 17), // sh x0,1(x0)
+        (&[0x23, 0x2E, 0x00, 0xFE], 18), // sw x0,-4(x0)
+    ];
+    for (image, code) in stops {
+        let folder = Folder::new();
+        folder.put("trim.bin", image);
+        let first = folder.run("--slot 0 --budget 5");
+        assert_eq!(first.code, code);
+        assert!(first.out.contains(&format!("\nstop {}: ", code - 10)));
+        // Resumed, it stays stopped.
+        let again = folder.run("--slot 0 --budget 5 --resume");
+        assert_eq!((again.code, again.out), (code, first.out));
+        assert_eq!(folder.get("part.row"), vec![0; ROW]);
+    }
+}
+
+/// Changes one file, sees the refusal on a new start and on resuming, and that nothing changes.
+fn is_refused(name: &str, bytes: &[u8], more: &str, code: i32, words: &str) {
+    let folder = with_paper();
+    assert_eq!(folder.run("--slot 0 --budget 1").code, 0);
+    folder.put(name, bytes);
+    let files = ["part.row", "line.slots", "line.slots.0.memory"];
+    let before = files.map(|file| folder.get(file));
+    for resume in ["", "--resume"] {
+        let line = format!("run trim.bin {FILES} --budget 1 {more} {resume}");
+        folder.fails(&line, code, &[name, words]);
+    }
+    assert_eq!(before, files.map(|file| folder.get(file)));
+}
+
+#[test]
+fn a_refusal_of_the_image_or_the_row_is_30_and_its_number() {
+    let words = "refusal 1: memory longer than 65,536";
+    is_refused("trim.bin", &[0; 65_537], "--slot 0", 31, words);
+    let words = "refusal 2: row not 512 bytes";
+    for length in [0, 511, 513, 1024] {
+        is_refused("part.row", &vec![0; length], "--slot 0", 32, words);
+    }
+    let words = "refusal 3: a row record breaks its rules";
+    for (at, byte) in [(0, 1), (4, 2), (5, 1), (511, 1)] {
+        let mut row = [0; ROW];
+        row[at] = byte;
+        is_refused("part.row", &row, "--slot 0", 33, words);
+    }
+}
+
+#[test]
+fn a_refusal_of_the_slots_is_30_and_its_number() {
+    let words = "refusal 4: slot buffer not a multiple of 144, or no such slot";
+    is_refused("line.slots", &[0; RECORD - 1], "--slot 0", 34, words);
+    is_refused("line.slots", &[0; RECORD], "--slot 1", 34, words);
+    is_refused("line.slots", &[], "--slot 0", 34, words);
+    let words = "refusal 5: state malformed";
+    for (at, byte) in [(0, 1), (136, 11), (137, 1), (143, 128)] {
+        let mut record = [0; RECORD];
+        record[at] = byte;
+        is_refused("line.slots", &record, "--slot 0", 35, words);
+    }
+}
+
+#[test]
+fn row_and_slot_refuse_what_is_none() {
+    let folder = Folder::new();
+    folder.put("short", &[0; 143]);
+    folder.put("burnt", &[1; ROW]);
+    folder.put("odd", &[1; RECORD]);
+    folder.fails("row short", 32, &["short: refusal 2"]);
+    folder.fails("row burnt", 33, &["burnt: refusal 3"]);
+    folder.fails("slot short 0", 34, &["short: refusal 4"]);
+    folder.fails("slot odd 1", 34, &["odd: refusal 4"]);
+    folder.fails("slot odd 0", 35, &["odd: refusal 5"]);
+    folder.put("blank", &[0; ROW]);
+    assert_eq!(folder.call("row blank").out, "0 burnt, 64 blank\n");
+}
+
+#[test]
+fn a_file_that_is_missing_is_3() {
+    let folder = with_paper();
+    folder.fails("list none", 3, &["none: missing"]);
+    folder.fails("row none", 3, &["none: missing"]);
+    folder.fails("slot none 0", 3, &["none: missing"]);
+    let line = "--slot 0 --budget 1";
+    folder.fails(&format!("run none {FILES} {line}"), 3, &["none: missing"]);
+    let nowhere = format!("run trim.bin --row no/part.row --slots line.slots {line}");
+    folder.fails(&nowhere, 3, &["no: missing"]);
+    let resume = format!("run trim.bin {FILES} {line} --resume");
+    folder.fails(&resume, 3, &["part.row: missing"]);
+    assert_eq!(folder.run(line).code, 0);
+    for name in ["part.row", "line.slots", "line.slots.0.memory"] {
+        let bytes = folder.get(name);
+        fs::remove_file(folder.path().join(name)).expect("removed");
+        folder.fails(&resume, 3, &[&format!("{name}: missing")]);
+        assert!(!folder.has(name));
+        folder.put(name, &bytes);
+    }
+    assert_eq!(folder.run(&format!("{line} --resume")).code, 0);
+}
+
+#[test]
+fn a_missing_row_with_a_record_is_never_taken_for_blank() {
+    let folder = with_paper();
+    folder.put("line.slots", &[0; 2 * RECORD]);
+    assert_eq!(folder.run("--slot 0 --budget 100").code, 0);
+    fs::remove_file(folder.path().join("part.row")).expect("removed");
+    for slot in 0..2 {
+        let line = format!("run trim.bin {FILES} --slot {slot} --budget 100");
+        folder.fails(&line, 3, &["part.row", "row is missing", "slot 0"]);
+        assert!(!folder.has("part.row"));
+    }
+    let other = folder.call("run trim.bin --row other --slots line.slots --slot 1 --budget 100");
+    assert_eq!(other.code, 0, "{}", other.err);
+}
+
+#[test]
+fn missing_slots_with_a_memory_are_not_made_anew() {
+    let folder = with_paper();
+    assert_eq!(folder.run("--slot 0 --budget 1").code, 0);
+    fs::remove_file(folder.path().join("line.slots")).expect("removed");
+    let line = format!("run trim.bin {FILES} --slot 0 --budget 1");
+    folder.fails(&line, 3, &["line.slots", "slots are missing"]);
+    assert!(!folder.has("line.slots"));
+    let many = format!("run trim.bin {FILES} --slot 4096 --budget 1");
+    folder.fails(&many, 3, &["line.slots", "too many"]);
+}
+
+#[test]
+fn a_run_of_another_row_or_image_is_not_resumed() {
+    let folder = with_paper();
+    assert_eq!(folder.run("--slot 0 --budget 1").code, 0);
+    folder.put("other.row", &[0; ROW]);
+    let mut other = PAPER;
+    other[0] ^= 4;
+    folder.put("other.bin", &other);
+    folder.put("longer.bin", &[&PAPER[..], &[0]].concat());
+    let line = "--slots line.slots --slot 0 --budget 9 --resume";
+    let row = format!("run trim.bin --row other.row {line}");
+    folder.fails(&row, 3, &["line.slots.0.memory", "another row", "part.row"]);
+    for image in ["other.bin", "longer.bin"] {
+        let line = format!("run {image} --row part.row {line}");
+        folder.fails(&line, 3, &["line.slots.0.memory", "another image"]);
+    }
+    assert_eq!(folder.get("other.row"), vec![0; ROW]);
+    assert_eq!(folder.run("--slot 0 --budget 9 --resume").code, 0);
+}
+
+#[test]
+fn a_record_that_was_not_saved_with_the_memory_is_not_resumed() {
+    let folder = with_paper();
+    assert_eq!(folder.run("--slot 0 --budget 1").code, 0);
+    folder.put("line.slots", &[0; RECORD]);
+    let line = format!("run trim.bin {FILES} --slot 0 --budget 9 --resume");
+    folder.fails(&line, 3, &["line.slots", "slot 0 is not the record"]);
+}
+
+#[test]
+fn a_paused_run_of_another_row_keeps_its_slot() {
+    let folder = with_paper();
+    assert_eq!(folder.run("--slot 0 --budget 1").code, 0);
+    let files = ["line.slots", "line.slots.0.memory"];
+    let before = files.map(|file| folder.get(file));
+    let other = "run trim.bin --row other.row --slots line.slots --slot 0 --budget 9";
+    folder.fails(
+        other,
+        3,
+        &["slot 0", "paused run", "part.row", "another slot"],
+    );
+    assert_eq!(before, files.map(|file| folder.get(file)));
+    assert!(!folder.has("other.row"));
+    // A new start on its own row may replace it; once it has stopped, another row's may, too.
+    assert_eq!(folder.run("--slot 0 --budget 100").code, 0);
+    assert_eq!(folder.call(other).code, 0);
+    assert_eq!(folder.get("other.row"), burnt_row());
+    let line = format!("run trim.bin {FILES} --slot 0 --budget 9 --resume");
+    folder.fails(&line, 3, &["another row", "other.row"]);
+}
+
+#[test]
+fn a_paused_record_without_its_memory_is_kept() {
+    let folder = with_paper();
+    let mut record = [0; RECORD];
+    record[128] = 1;
+    folder.put("line.slots", &record);
+    let line = format!("run trim.bin {FILES} --slot 0 --budget 1");
+    folder.fails(&line, 3, &["slot 0", "memory file is missing"]);
+    assert_eq!(folder.get("line.slots"), record);
+}
+
+/// A run that is carried on sees the words that a run in another slot burnt meanwhile.
+#[test]
+fn an_old_copy_of_the_row_never_comes_back() {
+    let folder = with_paper();
+    folder.put("line.slots", &[0; 2 * RECORD]);
+    assert_eq!(folder.run("--slot 0 --budget 2").code, 0);
+    let second = folder.run("--slot 1 --budget 100");
+    assert!(second.out.contains("word 0 burnt with 7"));
+    let first = folder.run("--slot 0 --budget 100 --resume");
+    assert_eq!(first.code, 19);
+    assert!(first.out.contains("no word burnt"));
+    assert_eq!(folder.get("part.row"), burnt_row());
+}
+
+#[test]
+fn damaged_files_are_3_and_never_ignored() {
+    let folder = with_paper();
+    assert_eq!(folder.run("--slot 0 --budget 1").code, 0);
+    let mut memory = folder.get("line.slots.0.memory");
+    let last = memory.len() - 10;
+    memory[last] ^= 1;
+    folder.put("line.slots.0.memory", &memory);
+    for resume in ["", "--resume"] {
+        let line = format!("run trim.bin {FILES} --slot 0 --budget 1 {resume}");
+        folder.fails(&line, 3, &["line.slots.0.memory: damaged"]);
+    }
+    memory[last] ^= 1;
+    folder.put("line.slots.0.memory", &memory);
+    folder.put("part.row.journal", b"phuyJRN1 torn");
+    for resume in ["", "--resume"] {
+        let line = format!("run trim.bin {FILES} --slot 0 --budget 1 {resume}");
+        folder.fails(&line, 3, &["part.row.journal: damaged journal"]);
+    }
+    assert!(folder.call("row part.row").err.contains("note: "));
+    assert_eq!(folder.get("part.row.journal"), b"phuyJRN1 torn");
+}
+
+#[test]
+fn stray_tmp_files_are_harmless() {
+    let folder = with_paper();
+    let strays = [
+        "part.row",
+        "part.row.journal",
+        "line.slots",
+        "line.slots.0.memory",
+    ];
+    for name in strays {
+        folder.put(&format!("{name}.tmp"), &[0xAA; 5000]);
+    }
+    assert_eq!(folder.run("--slot 0 --budget 100").code, 0);
+    assert_eq!(folder.get("part.row"), burnt_row());
+    for name in strays {
+        assert!(!folder.has(&format!("{name}.tmp")));
+    }
+}
+
+#[test]
+fn a_file_that_cannot_be_written_is_3() {
+    let folder = with_paper();
+    fs::create_dir(folder.path().join("part.row.journal.tmp")).expect("made");
+    let line = format!("run trim.bin {FILES} --slot 0 --budget 100");
+    folder.fails(&line, 3, &["part.row.journal"]);
+    assert!(!folder.has("part.row") && !folder.has("part.row.journal"));
+}
+
+/// The row cannot be replaced, but the burnt word is in the journal by then.
+#[test]
+fn a_save_that_fails_half_way_is_carried_out_by_the_next_run() {
+    let folder = with_paper();
+    assert_eq!(folder.run("--slot 0 --budget 2").code, 0);
+    let in_the_way = folder.path().join("part.row.tmp");
+    fs::create_dir(&in_the_way).expect("made");
+    let line = format!("run trim.bin {FILES} --slot 0 --budget 9 --resume");
+    folder.fails(&line, 3, &["part.row: "]);
+    assert_eq!(folder.get("part.row"), vec![0; ROW]);
+    assert!(folder.call("slot line.slots 0").err.contains("note: "));
+    fs::remove_dir(&in_the_way).expect("removed");
+    let resumed = folder.call(&line);
+    assert!(resumed.err.contains("note: ") && resumed.err.contains("carried out"));
+    assert!(resumed
+        .out
+        .starts_with("retired 0 in this run\ncount 3\nstop 1: ecall\n"));
+    assert_eq!((resumed.code, folder.get("part.row")), (0, burnt_row()));
+    assert!(!folder.has("part.row.journal"));
+}
+
+#[test]
+fn a_second_run_at_the_same_time_is_locked_out() {
+    let folder = with_paper();
+    folder.put("endless.bin", &ENDLESS);
+    let line = format!("run endless.bin {FILES} --slot 0 --budget {}", u64::MAX);
+    let mut command = folder.tool(&line);
+    command.stdout(Stdio::null()).stderr(Stdio::null());
+    let mut first = command.spawn().expect("started");
+    let clock = Instant::now();
+    while !folder.has("part.row") && clock.elapsed() < Duration::from_secs(20) {
+        std::thread::sleep(Duration::from_millis(5));
+    }
+    let row = "run trim.bin --row part.row --slots other.slots --slot 0 --budget 9";
+    folder.fails(row, 3, &["part.row: locked by another run"]);
+    let slots = "run trim.bin --row other.row --slots line.slots --slot 0 --budget 9";
+    folder.fails(slots, 3, &["line.slots: locked by another run"]);
+    assert!(!folder.has("other.row") && !folder.has("other.slots"));
+    first.kill().expect("killed");
+    first.wait().expect("over");
+    // The lock went with its process.
+    let resumed = folder.call(&format!(
+        "run endless.bin {FILES} --slot 0 --budget 7 --resume"
+    ));
+    assert_eq!(resumed.code, 0, "{}", resumed.err);
+    assert!(resumed.out.starts_with("retired 7 in this run\n"));
+}
+
+#[test]
+fn the_demo_shows_the_papers_facts_and_leaves_nothing() {
+    let folder = Folder::new();
+    let mut command = folder.tool("demo");
+    let done = command
+        .env("TMPDIR", folder.path())
+        .output()
+        .expect("started");
+    assert_eq!(done.status.code(), Some(0));
+    let out = String::from_utf8(done.stdout).expect("text");
+    for fact in [
+        "00000006 00532023 sw x5,0(x6)\n",
+        "retired 3 in this run\n",
+        "stop 1: ecall\npc 10 ",
+        "word 0 burnt with 7 ",
+        "1 burnt, 63 blank\n",
+        "retired 2 in this run\n",
+        "stop 9: word already burnt\npc 6 ",
+        "no word burnt in this run\n",
+    ] {
+        assert!(out.contains(fact), "{fact}");
+    }
+    assert_eq!(fs::read_dir(folder.path()).expect("there").count(), 0);
+}
