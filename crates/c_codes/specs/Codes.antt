@@ -11,6 +11,7 @@ use Rattle.isa.specs.Answers.{ofDecoded, ofEncoded, ofShortened}
 use Rattle.chart.specs.Chart.{charted}
 use Rattle.calls.specs.Calls.{Reply, told, numbersOf, ofNumbers}
 
+-- an instruction in the answer as its five numbers
 abbrev pub numbered : Answer Inst → Answer (List ℕ)
 numbered (given i) = given (numbersOf i)
 numbered (refusedWith n) = refusedWith n

@@ -92,6 +92,13 @@ pub step-next : {e : Effect} {rd : Reg} {v pc : ℕ} {m f : List ℕ} (w : World
 unfolding applied
 step-next w h k d e = rw (goes w h k, ← d, e)
 
+-- .. and where the register is x0, the write may be left out
+pub step-dropped : {e : Effect} {rd : Reg} {v pc : ℕ} {m f : List ℕ} (w : World) → w .st .stop ≡ 0 → w .st .count < 2 ^ 64 - 1
+    → done e m f ≡ effectAt (w .st .pc) (w .st .x) (w .mem) (w .row) → e ≡ Next rd v pc → rd .number ≡ 0
+    → world (advanced pc (w .st)) m f ≡ stepped w
+unfolding applied
+step-dropped w h k d e z = rw (goes w h k, ← d, e, eq-eqb _ 0 z)
+
 pub step-halt : {e : Effect} {why : Stop} {m f : List ℕ} (w : World) → w .st .stop ≡ 0 → w .st .count < 2 ^ 64 - 1
     → done e m f ≡ effectAt (w .st .pc) (w .st .x) (w .mem) (w .row) → e ≡ Halt why
     → world (halted why (w .st)) m f ≡ stepped w

@@ -61,12 +61,12 @@ pub fn run_steps(s: State, mem: &mut [u8], row: &mut [u8], budget: u64) -> State
         left -= 1;
         let e = effect_at(t.pc, &t.x, mem, row);
         match e {
-            Effect::Next { rd, value, pc } => {
-                t = t.write(rd, value).advance(pc);
-            }
-            Effect::Halt(why) => {
-                t = t.halt(why);
-            }
+            Effect::Next { rd, value, pc } => match rd.number() {
+                // x0 drops writes: the registers need not be gone through
+                0 => t = t.advance(pc),
+                _ => t = t.write(rd, value).advance(pc),
+            },
+            Effect::Halt(why) => t = t.halt(why),
         }
     }
     t

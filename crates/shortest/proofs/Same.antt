@@ -17,7 +17,6 @@ use Rattle.isa.specs.declared.ShiftOp.the-variants.{Slli, Srli, Srai}
 use Rattle.isa.specs.declared.ArithOp.the-variants.{Add, Sub, Sll, Slt, Sltu, Xor, Srl, Sra, Or, And}
 use Rattle.isa.specs.declared.MulDivOp.the-variants.{Mul, Mulh, Mulhsu, Mulhu, Div, Divu, Rem, Remu}
 use Rattle.isa.specs.declared.Parts.{Parts}
-use Rattle.isa.specs.Registers.{reg}
 use Rattle.isa.specs.Operations.{parts, partsOf, sameParts}
 use Rattle.isa.specs.Building.{operations, built}
 

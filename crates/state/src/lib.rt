@@ -2,8 +2,9 @@
 use answers::Stop;
 use isa::Reg;
 ghost use mathlib.Core.Path.{_≡_};
+ghost use mathlib.Core.Bool.{cond};
 ghost use Prim.Native.Nat.{_+_, _<_, _^_};
-ghost use lib.ListN.{getD, set};
+ghost use lib.ListN.{getD};
 ghost use Rattle.state.specs.States.{registerOf, registerSet, written, advanced, halted, fresh, noState, wellFormed};
 
 pub struct State {
@@ -37,23 +38,23 @@ pub fn read(x: &[u32; 31], r: Reg) -> u32
     at(x, n - 1)
 }
 
-// An element has v; past the last there is none to write.
-fn put(x: &mut [u32], i: usize, v: u32)
-    ensures { λ _. ⌜ now (x .exit) ≡ set (now (x .entry)) i v ⌝ }
+// v where it is to be written, else what stood there.
+fn pick(here: bool, v: u32, old: u32) -> u32
+    ensures { λ r. ⌜ r ≡ cond here v old ⌝ }
 {
-    if i >= x.len() {
-        return;
-    }
-    x[i] = v;
+    if here { v } else { old }
 }
 
-// A register has v; a write to x0 is dropped.
-fn write(x: &mut [u32; 31], r: Reg, v: u32)
+// A register has v; a write to x0 is dropped. Every element is stored, at an index that is known once
+// the loop is unrolled: a store at n - 1 would have the whole array copied out of the state and back.
+fn write(x: &mut [u32], r: Reg, v: u32)
     ensures { λ _. ⌜ now (x .exit) ≡ registerSet r v (now (x .entry)) ⌝ }
 {
     let n = r.number() as usize;
-    if n != 0 {
-        put(x, n - 1, v);
+    let mut k = 0;
+    while k < x.len() {
+        x[k] = pick(k + 1 == n, v, x[k]);
+        k += 1;
     }
 }
 

@@ -6,7 +6,7 @@ use lib.ListN.{length}
 use borrow.Author.Needs.{needs}
 use Rattle.state.specs.declared.State.{State}
 use Rattle.machine.specs.Steps.{world, ran}
-use Rattle.machine.proofs.Laws.{ran-stopped, ran-turn, ran-full, step-next, step-halt}
+use Rattle.machine.proofs.Laws.{ran-stopped, ran-turn, ran-full, step-next, step-dropped, step-halt}
 use Rattle.machine.proofs.run_steps.Statement.{statement}
 use Rattle.machine.proofs.run_steps.Tie as tie
 
@@ -28,22 +28,30 @@ returns-2 c =
     let l = c .before .before .before .before .loop in
     rw (c .halt .ensures) (ran-full (l .left) (world (l .t) (l .mem) (l .row)) (omega arith) (omega (arith, c .before .before .if1 .left)) (c .before .if2 .taken) ∙ l .inv .1 .1)
 
-advance-requires : tie.Need-advance-requires Inv-loop μ-loop
-advance-requires c κs =
-    let h = c .before .before .before .before .before .before .before .before .before .before .before .before .before .if2 .left in
-    let k = ap (λ (s : State). s .count) (c .write .ensures) in
-    omega arith
-
 loop-again : tie.Need-loop-again Inv-loop μ-loop
 loop-again c =
-    let k = c .before .before .before .before .before .before .before .before .before in
+    let k = c .before .before .before .before .before .before .before .before .before .before in
     let h = k .before .before .before .before .before in
     let l = h .before .before .before .loop in
     let w = world (l .t) (l .mem) (l .row) in
-    (omega arith, (omega arith, ran-turn (l .left) w (omega arith) (rw (c .advance .ensures, c .before .write .ensures) (step-next w (omega (arith, h .before .if1 .left)) (h .if2 .left) (k .effect-at .ensures) (c .before .before .before .e .given .1))) ∙ l .inv .1 .1))
+    (omega arith, (omega arith, ran-turn (l .left) w (omega arith) (rw (c .advance .ensures) (step-dropped w (omega (arith, h .before .if1 .left)) (h .if2 .left) (k .effect-at .ensures) (c .before .before .before .before .e .given .1) (sym (c .before .before .number .ensures) ∙ c .before .match2 .keys1))) ∙ l .inv .1 .1))
+
+advance-requires-2 : tie.Need-advance-requires-2 Inv-loop μ-loop
+advance-requires-2 c κs =
+    let h = c .before .before .before .before .before .before .before .before .before .before .before .before .before .before .before .if2 .left in
+    let k = ap (λ (s : State). s .count) (c .write .ensures) in
+    omega arith
 
 loop-again-2 : tie.Need-loop-again-2 Inv-loop μ-loop
 loop-again-2 c =
+    let k = c .before .before .before .before .before .before .before .before .before .before .before in
+    let h = k .before .before .before .before .before in
+    let l = h .before .before .before .loop in
+    let w = world (l .t) (l .mem) (l .row) in
+    (omega arith, (omega arith, ran-turn (l .left) w (omega arith) (rw (c .advance2 .ensures, c .before .write .ensures) (step-next w (omega (arith, h .before .if1 .left)) (h .if2 .left) (k .effect-at .ensures) (c .before .before .before .before .before .e .given .1))) ∙ l .inv .1 .1))
+
+loop-again-3 : tie.Need-loop-again-3 Inv-loop μ-loop
+loop-again-3 c =
     let k = c .before .before .before .before .before .before .before .before in
     let h = k .before .before .before .before .before in
     let l = h .before .before .before .loop in
@@ -75,13 +83,17 @@ run-steps-spec =
     (λ c κs. search needs)
     (λ c. search needs)
     _
-    advance-requires
+    (λ c κs. search needs)
     (λ c. search needs)
     loop-again
+    _
+    advance-requires-2
+    (λ c. search needs)
+    loop-again-2
     (λ c. search needs)
     _
     (λ c. search needs)
-    loop-again-2
+    loop-again-3
     (λ c. search needs)
     (λ c. search needs)
     returns-3)
