@@ -48,6 +48,9 @@ if [ "$machine" != x86_64 ]; then
     kit_for_this_machine
     export RATTLE_HOME="$stand"
 fi
+# as many crates at a time as there are processors; the archives are then a matter of seconds
+# shellcheck disable=SC2086
+rt check $exports
 for export in $exports; do
     rt staticlib "$export"
 done
