@@ -61,5 +61,5 @@ pub fn listing(image: &[u8]) -> String {
         text.extend_from_slice(&room[..length]);
         from = next;
     }
-    String::from_utf8(text).expect("a listing is ASCII, which is proved")
+    String::from_utf8(text).expect("a listing is ASCII, by its definition")
 }
