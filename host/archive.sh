@@ -4,7 +4,7 @@
 # a folder stands in for the kit, all links but for the compiler, which drops the x86-64 target.
 set -eu
 cd "$(dirname "$0")/.."
-exports='c_codes c_texts c_runs'
+exports='c_codes c_insts c_texts c_slots c_runs'
 machine=$(uname -m)
 
 # link_all FROM TO EXCEPT: a link in TO for each entry of FROM but one
@@ -48,18 +48,34 @@ if [ "$machine" != x86_64 ]; then
     kit_for_this_machine
     export RATTLE_HOME="$stand"
 fi
-# as many crates at a time as there are processors; the archives are then a matter of seconds
+# as many crates at a time as there are processors
 # shellcheck disable=SC2086
 rt check $exports
-for export in $exports; do
-    rt staticlib "$export"
-done
 
-# one archive of the three
+# archive EXPORT..: their archives, one after the other. Each is made in a folder of its own, with links
+# to the sources and to what is proved: two calls of rt in one folder would write the same logs.
+archive() {
+    for export; do
+        room=$PWD/target/archives/$export
+        rm -rf "$room"
+        mkdir -p "$room/target"
+        ln -s "$PWD/crates" "$PWD/crates.txt" "$room"
+        ln -s "$PWD/target/rlib" "$PWD/target/stamp" "$room/target"
+        (cd "$room" && rt staticlib "$export") >"$room/log" 2>&1 || { cat "$room/log"; return 1; }
+    done
+}
+
+# two at a time; of these two rows neither waits long for the other
+archive c_codes c_texts c_slots &
+archive c_insts c_runs
+wait $!
+
+# one archive of all
+mkdir -p target/staticlib
 cd target/staticlib
 rm -rf objects libphuyurik.a
 mkdir objects
 for export in $exports; do
-    (cd objects && ar x "../lib$export.a")
+    (cd objects && ar x "../../archives/$export/target/staticlib/lib$export.a")
 done
 ar rcs libphuyurik.a objects/*.o

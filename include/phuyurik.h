@@ -23,7 +23,7 @@ extern "C" {
 #define PHUYURIK_MEMORY_MAX 65536 /* main memory has 0 to this many bytes */
 #define PHUYURIK_ROW_SIZE 512     /* a fuse row: 64 records of 8 bytes */
 #define PHUYURIK_RECORD_SIZE 144  /* a state's record in a slot */
-#define PHUYURIK_ROOM_MIN 24      /* no text is longer */
+#define PHUYURIK_ROOM_MIN 24      /* a text room has at least this; less is refused with 6 */
 #define PHUYURIK_LINE_MAX 38      /* no line of a listing is longer, its newline included */
 
 /* ---- refusals */

@@ -1,4 +1,5 @@
-/* The paper's cards 11 and 12 through the C interface, and a resumed run: valid C11 and C++17. */
+/* Through the C interface: the paper's cards 1, 11 (also with a budget of 3) and 12, the recipe in
+ * pieces through a slot, and two refusals. Valid C11 and C++17. */
 #include <phuyurik.h>
 
 #include <stdio.h>

@@ -17,13 +17,13 @@ pub struct Instruction {
     pub imm: u32,
 }
 
-/// The class of 32 bits in the chart: 0 none, 1 R, 2 I, 3 S, 4 B, 5 U, 6 J.
+/// The format class of 32 bits: 0 none, 1 R, 2 I, 3 S, 4 B, 5 U, 6 J.
 pub fn chart(bits: u32) -> u8 {
-    let mut class = 0;
+    let mut format = 0;
     // SAFETY: the place is lent for the call alone.
-    let number = unsafe { raw::phuyurik_chart(bits, &mut class) };
+    let number = unsafe { raw::phuyurik_chart(bits, &mut format) };
     debug_assert_eq!(number, 0);
-    class
+    format
 }
 
 /// What 32 bits mean. Refused with 7.

@@ -2,7 +2,7 @@
 use crate::Instruction;
 
 extern "C" {
-    pub fn phuyurik_chart(bits: u32, class: &mut u8) -> u32;
+    pub fn phuyurik_chart(bits: u32, format: &mut u8) -> u32;
     pub fn phuyurik_decode(bits: u32, inst: &mut Instruction) -> u32;
     pub fn phuyurik_expand(bits: u16, inst: &mut Instruction) -> u32;
     pub fn phuyurik_encode(inst: &Instruction, bits: &mut u32) -> u32;

@@ -2,7 +2,7 @@
 //! `PHUYURIK_KILLS` says how many kills must hit (200 if it is not set).
 mod common;
 
-use common::Folder;
+use common::tool;
 use phuyurik::{State, Stop, RECORD, ROW};
 use std::collections::BTreeMap;
 use std::fs;
@@ -11,6 +11,7 @@ use std::os::unix::process::ExitStatusExt;
 use std::path::PathBuf;
 use std::process::{Command, ExitStatus, Stdio};
 use std::time::{Duration, Instant};
+use testing::{Folder, Random};
 
 /// An instruction's bits, as GNU as has them.
 enum Bits {
@@ -110,18 +111,6 @@ fn burnt_row() -> Vec<u8> {
     row
 }
 
-/// Xorshift with a fixed seed: the same delays in every test.
-struct Random(u64);
-
-impl Random {
-    fn below(&mut self, limit: u64) -> u64 {
-        self.0 ^= self.0 << 13;
-        self.0 ^= self.0 >> 7;
-        self.0 ^= self.0 << 17;
-        self.0 % limit
-    }
-}
-
 /// The fields of a file that the tool seals; its own reader, apart from the tool's.
 fn fields(bytes: &[u8]) -> Vec<Vec<u8>> {
     let mut rest = &bytes[8..bytes.len() - 8];
@@ -158,10 +147,10 @@ struct Stage {
 impl Stage {
     fn new() -> Stage {
         let folder = Folder::new();
-        fs::write(folder.path().join("stir.bin"), image()).expect("written");
+        folder.write("stir.bin", &image());
         let mut slots = vec![0x5B; 3 * RECORD];
         slots[SLOT * RECORD..][..RECORD].fill(0);
-        fs::write(folder.path().join("slots"), slots).expect("written");
+        folder.write("slots", &slots);
         let ends = (0..=STEPS / PIECE).map(|piece| piece * PIECE);
         let end = Moment::at(u64::MAX);
         let mut moments: BTreeMap<u64, Moment> =
@@ -171,7 +160,7 @@ impl Stage {
             folder,
             moments,
             end,
-            random: Random(0x7068_7579_7572_696b),
+            random: Random::new(0x7068_7579_7572_696b),
             kills: 0,
             in_a_save: 0,
             longest_delay: Duration::ZERO,
@@ -179,7 +168,7 @@ impl Stage {
     }
 
     fn file(&self, name: &str) -> PathBuf {
-        self.folder.path().join(name)
+        self.folder.file(name)
     }
 
     /// Starts the tool, kills it after a random time, and tells how it ended.
@@ -196,7 +185,7 @@ impl Stage {
         let files = format!("stir.bin --row {row} --slots slots --slot {SLOT}");
         let resume = if resume { "--resume" } else { "" };
         let line = format!("run {files} --budget {budget} --piece {PIECE} {resume}");
-        let mut command = self.folder.tool(&line);
+        let mut command = tool(&self.folder, &line);
         command.stdout(Stdio::null()).stderr(Stdio::null());
         command
     }

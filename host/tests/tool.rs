@@ -1,12 +1,13 @@
 //! The tool as it is called: what it writes, what it leaves in the files, and its exit codes.
 mod common;
 
-use common::Folder;
+use common::tool;
 use phuyurik::{RECORD, ROW};
 use std::fs;
 use std::io::Read;
 use std::process::Stdio;
 use std::time::{Duration, Instant};
+use testing::Folder;
 
 const PAPER: [u8; 14] = [
     0x9D, 0x42, 0x37, 0x03, 0x00, 0x80, 0x23, 0x20, 0x53, 0x00, 0x73, 0x00, 0x00, 0x00,
@@ -23,7 +24,6 @@ struct Answer {
 }
 
 trait Bench {
-    fn put(&self, name: &str, bytes: &[u8]);
     fn get(&self, name: &str) -> Vec<u8>;
     fn has(&self, name: &str) -> bool;
     fn call(&self, line: &str) -> Answer;
@@ -32,20 +32,16 @@ trait Bench {
 }
 
 impl Bench for Folder {
-    fn put(&self, name: &str, bytes: &[u8]) {
-        fs::write(self.path().join(name), bytes).expect("written");
-    }
-
     fn get(&self, name: &str) -> Vec<u8> {
-        fs::read(self.path().join(name)).expect(name)
+        fs::read(self.file(name)).expect(name)
     }
 
     fn has(&self, name: &str) -> bool {
-        self.path().join(name).exists()
+        self.file(name).exists()
     }
 
     fn call(&self, line: &str) -> Answer {
-        let done = self.tool(line).output().expect("started");
+        let done = tool(self, line).output().expect("started");
         Answer {
             code: done.status.code().expect("it ends by itself"),
             out: String::from_utf8(done.stdout).expect("text"),
@@ -72,7 +68,7 @@ impl Bench for Folder {
 
 fn with_paper() -> Folder {
     let folder = Folder::new();
-    folder.put("trim.bin", &PAPER);
+    folder.write("trim.bin", &PAPER);
     folder
 }
 
@@ -128,14 +124,14 @@ fn the_listing_is_the_papers() {
     let paper = "00000000 429d c:addi x5,x0,7\n00000002 80000337 lui x6,524288\n\
                  00000006 00532023 sw x5,0(x6)\n0000000a 00000073 ecall\n";
     assert_eq!(folder.call("list trim.bin").out, paper);
-    folder.put("odd.bin", &[0xFF, 0xFF, 0x01]);
+    folder.write("odd.bin", &[0xFF, 0xFF, 0x01]);
     let odd = "00000000 ffff ?\n00000002 01 ?\n";
     assert_eq!(folder.call("list odd.bin").out, odd);
-    folder.put("none.bin", &[]);
+    folder.write("none.bin", &[]);
     assert_eq!(folder.call("list none.bin").out, "");
-    folder.put("long.bin", &vec![0; 65_537]);
+    folder.write("long.bin", &vec![0; 65_537]);
     assert_eq!(folder.call("list long.bin").out, "too long\n");
-    folder.put("full.bin", &vec![0; 65_536]);
+    folder.write("full.bin", &vec![0; 65_536]);
     let full = folder.call("list full.bin").out;
     assert_eq!(full.lines().count(), 32_768);
     assert!(full.ends_with("\n0000fffe 0000 ?\n"));
@@ -144,8 +140,8 @@ fn the_listing_is_the_papers() {
 #[test]
 fn a_reader_that_goes_away_is_no_error() {
     let folder = Folder::new();
-    folder.put("full.bin", &vec![0; 65_536]);
-    let mut command = folder.tool("list full.bin");
+    folder.write("full.bin", &vec![0; 65_536]);
+    let mut command = tool(&folder, "list full.bin");
     command.stdout(Stdio::piped()).stderr(Stdio::piped());
     let mut child = command.spawn().expect("started");
     drop(child.stdout.take());
@@ -216,7 +212,7 @@ fn a_stop_is_10_and_its_number() {
     ];
     for (image, code) in stops {
         let folder = Folder::new();
-        folder.put("trim.bin", image);
+        folder.write("trim.bin", image);
         let first = folder.run("--slot 0 --budget 5");
         assert_eq!(first.code, code);
         assert!(first.out.contains(&format!("\nstop {}: ", code - 10)));
@@ -231,7 +227,7 @@ fn a_stop_is_10_and_its_number() {
 fn is_refused(name: &str, bytes: &[u8], more: &str, code: i32, words: &str) {
     let folder = with_paper();
     assert_eq!(folder.run("--slot 0 --budget 1").code, 0);
-    folder.put(name, bytes);
+    folder.write(name, bytes);
     let files = ["part.row", "line.slots", "line.slots.0.memory"];
     let before = files.map(|file| folder.get(file));
     for resume in ["", "--resume"] {
@@ -274,15 +270,15 @@ fn a_refusal_of_the_slots_is_30_and_its_number() {
 #[test]
 fn row_and_slot_refuse_what_is_none() {
     let folder = Folder::new();
-    folder.put("short", &[0; 143]);
-    folder.put("burnt", &[1; ROW]);
-    folder.put("odd", &[1; RECORD]);
+    folder.write("short", &[0; 143]);
+    folder.write("burnt", &[1; ROW]);
+    folder.write("odd", &[1; RECORD]);
     folder.fails("row short", 32, &["short: refusal 2"]);
     folder.fails("row burnt", 33, &["burnt: refusal 3"]);
     folder.fails("slot short 0", 34, &["short: refusal 4"]);
     folder.fails("slot odd 1", 34, &["odd: refusal 4"]);
     folder.fails("slot odd 0", 35, &["odd: refusal 5"]);
-    folder.put("blank", &[0; ROW]);
+    folder.write("blank", &[0; ROW]);
     assert_eq!(folder.call("row blank").out, "0 burnt, 64 blank\n");
 }
 
@@ -301,10 +297,10 @@ fn a_file_that_is_missing_is_3() {
     assert_eq!(folder.run(line).code, 0);
     for name in ["part.row", "line.slots", "line.slots.0.memory"] {
         let bytes = folder.get(name);
-        fs::remove_file(folder.path().join(name)).expect("removed");
+        fs::remove_file(folder.file(name)).expect("removed");
         folder.fails(&resume, 3, &[&format!("{name}: missing")]);
         assert!(!folder.has(name));
-        folder.put(name, &bytes);
+        folder.write(name, &bytes);
     }
     assert_eq!(folder.run(&format!("{line} --resume")).code, 0);
 }
@@ -312,9 +308,9 @@ fn a_file_that_is_missing_is_3() {
 #[test]
 fn a_missing_row_with_a_record_is_never_taken_for_blank() {
     let folder = with_paper();
-    folder.put("line.slots", &[0; 2 * RECORD]);
+    folder.write("line.slots", &[0; 2 * RECORD]);
     assert_eq!(folder.run("--slot 0 --budget 100").code, 0);
-    fs::remove_file(folder.path().join("part.row")).expect("removed");
+    fs::remove_file(folder.file("part.row")).expect("removed");
     for slot in 0..2 {
         let line = format!("run trim.bin {FILES} --slot {slot} --budget 100");
         folder.fails(&line, 3, &["part.row", "row is missing", "slot 0"]);
@@ -328,7 +324,7 @@ fn a_missing_row_with_a_record_is_never_taken_for_blank() {
 fn missing_slots_with_a_memory_are_not_made_anew() {
     let folder = with_paper();
     assert_eq!(folder.run("--slot 0 --budget 1").code, 0);
-    fs::remove_file(folder.path().join("line.slots")).expect("removed");
+    fs::remove_file(folder.file("line.slots")).expect("removed");
     let line = format!("run trim.bin {FILES} --slot 0 --budget 1");
     folder.fails(&line, 3, &["line.slots", "slots are missing"]);
     assert!(!folder.has("line.slots"));
@@ -340,11 +336,11 @@ fn missing_slots_with_a_memory_are_not_made_anew() {
 fn a_run_of_another_row_or_image_is_not_resumed() {
     let folder = with_paper();
     assert_eq!(folder.run("--slot 0 --budget 1").code, 0);
-    folder.put("other.row", &[0; ROW]);
+    folder.write("other.row", &[0; ROW]);
     let mut other = PAPER;
     other[0] ^= 4;
-    folder.put("other.bin", &other);
-    folder.put("longer.bin", &[&PAPER[..], &[0]].concat());
+    folder.write("other.bin", &other);
+    folder.write("longer.bin", &[&PAPER[..], &[0]].concat());
     let line = "--slots line.slots --slot 0 --budget 9 --resume";
     let row = format!("run trim.bin --row other.row {line}");
     folder.fails(&row, 3, &["line.slots.0.memory", "another row", "part.row"]);
@@ -360,7 +356,7 @@ fn a_run_of_another_row_or_image_is_not_resumed() {
 fn a_record_that_was_not_saved_with_the_memory_is_not_resumed() {
     let folder = with_paper();
     assert_eq!(folder.run("--slot 0 --budget 1").code, 0);
-    folder.put("line.slots", &[0; RECORD]);
+    folder.write("line.slots", &[0; RECORD]);
     let line = format!("run trim.bin {FILES} --slot 0 --budget 9 --resume");
     folder.fails(&line, 3, &["line.slots", "slot 0 is not the record"]);
 }
@@ -392,7 +388,7 @@ fn a_paused_record_without_its_memory_is_kept() {
     let folder = with_paper();
     let mut record = [0; RECORD];
     record[128] = 1;
-    folder.put("line.slots", &record);
+    folder.write("line.slots", &record);
     let line = format!("run trim.bin {FILES} --slot 0 --budget 1");
     folder.fails(&line, 3, &["slot 0", "memory file is missing"]);
     assert_eq!(folder.get("line.slots"), record);
@@ -402,7 +398,7 @@ fn a_paused_record_without_its_memory_is_kept() {
 #[test]
 fn an_old_copy_of_the_row_never_comes_back() {
     let folder = with_paper();
-    folder.put("line.slots", &[0; 2 * RECORD]);
+    folder.write("line.slots", &[0; 2 * RECORD]);
     assert_eq!(folder.run("--slot 0 --budget 2").code, 0);
     let second = folder.run("--slot 1 --budget 100");
     assert!(second.out.contains("word 0 burnt with 7"));
@@ -419,14 +415,14 @@ fn damaged_files_are_3_and_never_ignored() {
     let mut memory = folder.get("line.slots.0.memory");
     let last = memory.len() - 10;
     memory[last] ^= 1;
-    folder.put("line.slots.0.memory", &memory);
+    folder.write("line.slots.0.memory", &memory);
     for resume in ["", "--resume"] {
         let line = format!("run trim.bin {FILES} --slot 0 --budget 1 {resume}");
         folder.fails(&line, 3, &["line.slots.0.memory: damaged"]);
     }
     memory[last] ^= 1;
-    folder.put("line.slots.0.memory", &memory);
-    folder.put("part.row.journal", b"phuyJRN1 torn");
+    folder.write("line.slots.0.memory", &memory);
+    folder.write("part.row.journal", b"phuyJRN1 torn");
     for resume in ["", "--resume"] {
         let line = format!("run trim.bin {FILES} --slot 0 --budget 1 {resume}");
         folder.fails(&line, 3, &["part.row.journal: damaged journal"]);
@@ -445,7 +441,7 @@ fn stray_tmp_files_are_harmless() {
         "line.slots.0.memory",
     ];
     for name in strays {
-        folder.put(&format!("{name}.tmp"), &[0xAA; 5000]);
+        folder.write(&format!("{name}.tmp"), &[0xAA; 5000]);
     }
     assert_eq!(folder.run("--slot 0 --budget 100").code, 0);
     assert_eq!(folder.get("part.row"), burnt_row());
@@ -457,7 +453,7 @@ fn stray_tmp_files_are_harmless() {
 #[test]
 fn a_file_that_cannot_be_written_is_3() {
     let folder = with_paper();
-    fs::create_dir(folder.path().join("part.row.journal.tmp")).expect("made");
+    fs::create_dir(folder.file("part.row.journal.tmp")).expect("made");
     let line = format!("run trim.bin {FILES} --slot 0 --budget 100");
     folder.fails(&line, 3, &["part.row.journal"]);
     assert!(!folder.has("part.row") && !folder.has("part.row.journal"));
@@ -468,7 +464,7 @@ fn a_file_that_cannot_be_written_is_3() {
 fn a_save_that_fails_half_way_is_carried_out_by_the_next_run() {
     let folder = with_paper();
     assert_eq!(folder.run("--slot 0 --budget 2").code, 0);
-    let in_the_way = folder.path().join("part.row.tmp");
+    let in_the_way = folder.file("part.row.tmp");
     fs::create_dir(&in_the_way).expect("made");
     let line = format!("run trim.bin {FILES} --slot 0 --budget 9 --resume");
     folder.fails(&line, 3, &["part.row: "]);
@@ -487,9 +483,9 @@ fn a_save_that_fails_half_way_is_carried_out_by_the_next_run() {
 #[test]
 fn a_second_run_at_the_same_time_is_locked_out() {
     let folder = with_paper();
-    folder.put("endless.bin", &ENDLESS);
+    folder.write("endless.bin", &ENDLESS);
     let line = format!("run endless.bin {FILES} --slot 0 --budget {}", u64::MAX);
-    let mut command = folder.tool(&line);
+    let mut command = tool(&folder, &line);
     command.stdout(Stdio::null()).stderr(Stdio::null());
     let mut first = command.spawn().expect("started");
     let clock = Instant::now();
@@ -514,7 +510,7 @@ fn a_second_run_at_the_same_time_is_locked_out() {
 #[test]
 fn the_demo_shows_the_papers_facts_and_leaves_nothing() {
     let folder = Folder::new();
-    let mut command = folder.tool("demo");
+    let mut command = tool(&folder, "demo");
     let done = command
         .env("TMPDIR", folder.path())
         .output()

@@ -13,7 +13,7 @@ use Rattle.isa.specs.declared.StoreOp.{StoreOp}
 use Rattle.isa.specs.declared.StoreOp.the-variants.{Sb, Sh, Sw}
 use Rattle.isa.specs.Registers.{x0}
 use Rattle.octets.specs.Bytes.{load, store}
-use Rattle.octets.specs.Widths.{bytes}
+use Rattle.octets.specs.Widths.{widthBytes}
 use Rattle.octets.specs.declared.Width.{Width}
 use Rattle.octets.specs.declared.Width.the-variants.{One, Two, Four}
 use Rattle.place.specs.Map.{placed}
@@ -51,13 +51,13 @@ extended Lhu v = v
 
 -- rd gets what is at the place, and the next instruction is at next
 unfoldable pub loadedFrom : Place → LoadOp → Reg → ℕ → List ℕ → List ℕ → Effect
-loadedFrom (Memory i) o rd next m f = Next rd (extended o (load (bytes (loadWidth o)) i m)) next
+loadedFrom (Memory i) o rd next m f = Next rd (extended o (load (widthBytes (loadWidth o)) i m)) next
 loadedFrom (Fuse k) o rd next m f = Next rd (valueAt k f) next
 loadedFrom Misaligned o rd next m f = Halt LoadMisaligned
 loadedFrom Outside o rd next m f = Halt LoadOutside
 
 abbrev pub loaded : LoadOp → Reg → ℕ → ℕ → List ℕ → List ℕ → Effect
-loaded o rd a next m f = loadedFrom (placed (bytes (loadWidth o)) a (length m)) o rd next m f
+loaded o rd a next m f = loadedFrom (placed (widthBytes (loadWidth o)) a (length m)) o rd next m f
 
 -- ---- stores
 
@@ -66,12 +66,12 @@ storeWidth Sb = One
 storeWidth Sh = Two
 storeWidth Sw = Four
 
--- v goes to the place: into memory, or burnt into a blank word
+-- v goes to the place: into memory, or burnt into a blank word. A store writes no register: x0 drops the 0
 unfoldable pub storedTo : Place → StoreOp → ℕ → ℕ → List ℕ → List ℕ → Done
-storedTo (Memory i) o v next m f = done (Next x0 0 next) (store (bytes (storeWidth o)) i v m) f
+storedTo (Memory i) o v next m f = done (Next x0 0 next) (store (widthBytes (storeWidth o)) i v m) f
 storedTo (Fuse k) o v next m f = cond (eqb (markAt k f) 0) (done (Next x0 0 next) m (burnt k v f)) (done (Halt AlreadyBurnt) m f)
 storedTo Misaligned o v next m f = done (Halt StoreMisaligned) m f
 storedTo Outside o v next m f = done (Halt StoreOutside) m f
 
 abbrev pub stored : StoreOp → ℕ → ℕ → ℕ → List ℕ → List ℕ → Done
-stored o v a next m f = storedTo (placed (bytes (storeWidth o)) a (length m)) o v next m f
+stored o v a next m f = storedTo (placed (widthBytes (storeWidth o)) a (length m)) o v next m f

@@ -7,18 +7,18 @@ use octets::Width;
 use octets::load1;
 use octets::load2;
 use octets::load4;
-use octets::store_of;
 use part::burn;
 use part::is_burnt;
 use part::value_of;
 use place::Place;
 use place::place_of;
+use stores::store_of;
 use word::sign_extend;
 ghost use mathlib.Core.Path.{_≡_};
 ghost use Prim.Native.Nat.{_+_, _≤_};
 ghost use lib.ListN.{length};
 ghost use Rattle.octets.specs.Bytes.{load};
-ghost use Rattle.octets.specs.Widths.{bytes};
+ghost use Rattle.octets.specs.Widths.{widthBytes};
 ghost use Rattle.access.specs.Accesses.{done, loadWidth, extended, loaded, storeWidth, stored};
 
 // What an instruction does: a register gets a value and the next instruction is at pc, or the run stops.
@@ -51,8 +51,8 @@ fn store_width(op: StoreOp) -> Width
 
 // What a register gets of the bytes of memory from at.
 fn extended_load(op: LoadOp, mem: &[u8], at: usize) -> u32
-    requires { ⌜ at + bytes (loadWidth op) ≤ length (now mem) ⌝ }
-    ensures { λ r. ⌜ r ≡ extended op (load (bytes (loadWidth op)) at (now (mem .entry))) ⌝ }
+    requires { ⌜ at + widthBytes (loadWidth op) ≤ length (now mem) ⌝ }
+    ensures { λ r. ⌜ r ≡ extended op (load (widthBytes (loadWidth op)) at (now (mem .entry))) ⌝ }
 {
     match op {
         LoadOp::Lb => sign_extend(load1(mem, at) as u32, 8),

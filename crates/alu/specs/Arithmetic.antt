@@ -1,4 +1,5 @@
 -- What each operation of RV32I and RV32M computes (the manual's sections 2.4, 2.5 and 7.1, 7.2), of two register values or of a register's value and an immediate.
+-- Of integers, `quotZ` is the quotient rounded toward zero, `remZ` the remainder with the sign of the dividend, `ltZ` and `leZ` are < and ≤.
 use Prim.Native.Nat.{ℕ, _+_, _-_, _*_, _/_, _%_, _^_}
 use mathlib.Core.Bool.{Bool, true, false, cond, not}
 use lib.Dec.{eqb, ltb, leb}

@@ -1,4 +1,5 @@
 -- Bits read as integers, and integers as bits. A register's value is the number of its 32 bits.
+-- `pos n` is the integer n and `negsuc n` is -(n + 1); `sel` is if, then, else; `shrZ z m` is z / m rounded down.
 use Prim.Native.Nat.{ℕ, suc, _-_, _%_, _^_}
 use lib.Dec.{ltb}
 use lib.IntN.{ℤ, pos, negsuc}

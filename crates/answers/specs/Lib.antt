@@ -2,3 +2,5 @@ pub mod Refusals
 pub mod Answer
 pub mod Checks
 pub mod Stops
+pub mod Order
+pub mod Replies

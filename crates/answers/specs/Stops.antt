@@ -17,3 +17,7 @@ stopNumber StoreOutside = 8
 -- word already burnt
 stopNumber AlreadyBurnt = 9
 stopNumber CountFull = 10
+
+-- the highest of them
+abbrev pub lastStop : ℕ
+lastStop = 10

@@ -10,7 +10,7 @@ use lib.Dec.{ltb, leb, eqb}
 use lib.ListN.{getD}
 use borrow.Author.Tests.{lt-ltb, le-ltb, le-leb, leb-true, ne-eqb}
 use Rattle.word.proofs.Bools.{below}
-use Rattle.ascii.specs.Numbers.{decimal, signed}
+use Rattle.ascii.specs.Numbers.{decimal, signedDecimal}
 use Rattle.ascii.proofs.Numbers.{decimal-one, decimal-more, signed-plain, signed-minus}
 
 -- no byte of the text is below k
@@ -108,7 +108,7 @@ read-decimal n = digits-of n .value
 pub decimal-from : (n : ℕ) → from 45 (decimal n) ≡ true
 decimal-from n = digits-of n .above 45 (omega arith)
 
-pub signed-from : (n : ℕ) → from 45 (signed n) ≡ true
+pub signed-from : (n : ℕ) → from 45 (signedDecimal n) ≡ true
 signed-from n =
     ⊎-elim (λ l. rw (signed-plain n l) (decimal-from n)) (λ g. rw (signed-minus n g) (decimal-from (2 ^ 32 - n))) (below n (2 ^ 31))
 
@@ -122,7 +122,7 @@ number-decimal n = rw (digit-first (decimal n) (digits-of n .above 48 (omega ari
         let h : 48 ≤ b = leb-true 48 b (and-eq-true-iff (leb 48 b) (from 48 l) .0 e .0) in
         ne-eqb b 45 (λ x. omega arith)
 
-pub number-signed : (n : ℕ) → n < 2 ^ 32 → number (signed n) ≡ n
+pub number-signed : (n : ℕ) → n < 2 ^ 32 → number (signedDecimal n) ≡ n
 unfolding number read
 number-signed n h =
     ⊎-elim (λ l. rw (signed-plain n l) (number-decimal n)) (λ g. rw (signed-minus n g, read-decimal (2 ^ 32 - n)) (omega arith))

@@ -1,17 +1,16 @@
--- Decimal and hexadecimal numbers, digit by digit, and how long they are. `decimal` stays shut: computing it at a large number takes that number of steps.
--- Assumes nothing.
+-- Decimal and hexadecimal numbers, digit by digit, and how long they are. Assumes nothing.
 use mathlib.Core.Path.{_≡_, refl, ap}
 use mathlib.Core.List.{List, [], _∷_, _++_}
 use mathlib.Core.Bool.{cond}
 use mathlib.Core.Logic.{⊎-elim}
 use Prim.Native.Nat.{ℕ, zero, suc, _+_, _-_, _/_, _%_, _^_, _≤_, _<_}
 use native.Mathlib.Omega.{arith}
-use native.Mathlib.Nat.{pow-suc}
-use lib.Dec.{ltb}
+use native.Mathlib.Nat.{pow-suc, pow-le-pow-right}
+use lib.Dec.{ltb, lit<}
 use lib.ListN.{length, length-append}
 use borrow.Author.Tests.{lt-ltb, le-ltb}
 use Rattle.word.proofs.Bools.{below}
-use Rattle.ascii.specs.Numbers.{digit, decimalBy, decimal, signed, hex}
+use Rattle.ascii.specs.Numbers.{digit, decimalBy, decimal, signedDecimal, hex}
 
 -- any bound that is large enough gives the same digits
 by-same : (k j n : ℕ) → n ≤ k → n ≤ j → decimalBy k n ≡ decimalBy j n
@@ -48,6 +47,14 @@ decimal-bound (suc k) n h =
     (λ g. rw (decimal-more n g, length-append) (omega (arith, decimal-bound k (n / 10) (tenth k n h))))
     (below n 10)
 
+-- a number from 10 ^ k on has more than k digits
+pub decimal-least : (k n : ℕ) → 10 ^ k ≤ n → suc k ≤ length (decimal n)
+decimal-least zero n h =
+    ⊎-elim (λ l. rw (decimal-one n l) (omega arith)) (λ g. rw (decimal-more n g, length-append) (omega arith)) (below n 10)
+decimal-least (suc k) n h =
+    let g : 10 ≤ n = omega (arith, pow-le-pow-right {n = 10} (lit< tt) {i = 1} {j = suc k} (omega arith)) in
+    rw (decimal-more n g, length-append) (omega (arith, decimal-least k (n / 10) (omega arith)))
+
 pub hex-length : (k n : ℕ) → length (hex k n) ≡ k
 unfolding hex
 hex-length zero n = refl
@@ -60,10 +67,10 @@ hex-more zero n h = absurd (omega arith)
 hex-more (suc k) n h = let e : suc k - 1 ≡ k = omega arith in rw e
 
 -- a number that is not negative, and one that is
-pub signed-plain : (n : ℕ) → n < 2 ^ 31 → signed n ≡ decimal n
-unfolding signed
+pub signed-plain : (n : ℕ) → n < 2 ^ 31 → signedDecimal n ≡ decimal n
+unfolding signedDecimal
 signed-plain n h = rw (lt-ltb n (2 ^ 31) h)
 
-pub signed-minus : (n : ℕ) → 2 ^ 31 ≤ n → signed n ≡ 45 ∷ decimal (2 ^ 32 - n)
-unfolding signed
+pub signed-minus : (n : ℕ) → 2 ^ 31 ≤ n → signedDecimal n ≡ 45 ∷ decimal (2 ^ 32 - n)
+unfolding signedDecimal
 signed-minus n h = rw (le-ltb n (2 ^ 31) h)

@@ -4,7 +4,7 @@ ghost use mathlib.Core.Path.{_≡_};
 ghost use mathlib.Core.List.{[], _∷_};
 ghost use Prim.Native.Nat.{_+_, _≤_};
 ghost use lib.ListN.{length};
-ghost use Rattle.ascii.specs.Numbers.{digit as Numbers·digit, decimal, signed, hex};
+ghost use Rattle.ascii.specs.Numbers.{digit as Numbers·digit, decimal, signedDecimal, hex};
 ghost use Rattle.ascii.specs.Rooms.{Wrote};
 
 pub fn put(room: &mut [u8], at: usize, byte: u8) -> usize
@@ -40,8 +40,8 @@ pub fn put_decimal(room: &mut [u8], at: usize, n: u32) -> usize
 
 // A number in two's complement, with a minus sign where it is negative.
 pub fn put_signed(room: &mut [u8], at: usize, n: u32) -> usize
-    requires { ⌜ at + length (signed n) ≤ length (now room) ⌝ }
-    ensures { λ r. ⌜ Wrote (now (room .entry)) at (signed n) (now (room .exit)) r ⌝ }
+    requires { ⌜ at + length (signedDecimal n) ≤ length (now room) ⌝ }
+    ensures { λ r. ⌜ Wrote (now (room .entry)) at (signedDecimal n) (now (room .exit)) r ⌝ }
 {
     if n < 0x8000_0000 {
         return put_decimal(room, at, n);

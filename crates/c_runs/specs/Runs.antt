@@ -1,11 +1,11 @@
--- The C interface, steps, runs and slots: what each call returns, and what it leaves in its places and in the buffers.
+-- The C interface, steps and runs: what each call returns, and what it leaves in its places and in the buffers.
 use Prim.Native.Nat.{ℕ}
 use mathlib.Core.List.{List}
 use Rattle.state.specs.declared.State.{State}
-use Rattle.machine.specs.Steps.{World}
+use Rattle.engine.specs.Steps.{World}
 use Rattle.machine.specs.Entries.{stepEntry, runEntry, ofStepped, ofRan}
-use Rattle.slots.specs.Slots.{Written as SlotWritten, Sheet, writeEntry, readEntry, resumeEntry, ofWritten, ofReadBack, ofResumed}
-use Rattle.calls.specs.Calls.{Reply, reply, told}
+use Rattle.resume.specs.Resuming.{Sheet, resumeEntry, ofResumed}
+use Rattle.answers.specs.Replies.{Reply, told}
 
 -- ---- steps and runs: the state in its place, with the number retired, then memory and row
 
@@ -15,21 +15,11 @@ stepCall w = (told (ofStepped (stepEntry w .answer)) (w .st), stepEntry w .mem, 
 abbrev pub runCall : ℕ → World → ℕ → Reply (State × ℕ) × List ℕ × List ℕ
 runCall budget w retired = (told (ofRan (runEntry budget w .answer)) (w .st, retired), runEntry budget w .mem, runEntry budget w .row)
 
--- ---- slots
-
--- there is no value to give
-abbrev pub writeLeft : SlotWritten → Reply (List ℕ)
-writeLeft w = reply (told (ofWritten w) tt .number) (w .slots)
-
-abbrev pub writeCall : ℕ → State → List ℕ → Reply (List ℕ)
-writeCall k s slots = writeLeft (writeEntry k s slots)
-
-abbrev pub readCall : ℕ → List ℕ → State → Reply State
-readCall k slots before = told (ofReadBack (readEntry k slots)) before
+-- ---- a run carried on from its slot
 
 -- the number retired in its place, then memory, row and slots
-abbrev pub resumeLeft : Sheet → ℕ → Reply ℕ × List ℕ × List ℕ × List ℕ
-resumeLeft s retired = (told (ofResumed (s .answer)) retired, s .mem, s .row, s .slots)
+abbrev pub resumeLeft : ℕ → Sheet → Reply ℕ × List ℕ × List ℕ × List ℕ
+resumeLeft retired s = (told (ofResumed (s .answer)) retired, s .mem, s .row, s .slots)
 
 abbrev pub resumeCall : ℕ → ℕ → List ℕ → List ℕ → List ℕ → ℕ → Reply ℕ × List ℕ × List ℕ × List ℕ
-resumeCall budget k m f slots retired = resumeLeft (resumeEntry budget k m f slots) retired
+resumeCall budget k m f slots retired = resumeLeft retired (resumeEntry budget k m f slots)

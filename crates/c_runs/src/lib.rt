@@ -1,13 +1,26 @@
-// The C interface, steps, runs and slots. A state is lent as its four parts: pc, x1 to x31, the retired
+// The C interface, steps and runs. A state is lent as its four parts: pc, x1 to x31, the retired
 // count and the stop number.
 use answers::Check;
-use slots::Resumed;
+use resume::Resumed;
 use state::State;
 ghost use mathlib.Core.Path.{_≡_};
 ghost use Rattle.state.specs.States.{state};
-ghost use Rattle.machine.specs.Steps.{world};
-ghost use Rattle.calls.specs.Calls.{reply};
-ghost use Rattle.c_runs.specs.Runs.{stepCall, runCall, writeCall, readCall, resumeCall};
+ghost use Rattle.engine.specs.Steps.{world};
+ghost use Rattle.answers.specs.Replies.{reply};
+ghost use Rattle.c_runs.specs.Runs.{stepCall, runCall, resumeCall};
+
+// The state that has these parts.
+fn state_of(pc: u32, x: &[u32; 31], count: u64, stop: u8) -> State
+    ensures { λ s. ⌜ s ≡ state pc (now (x .entry)) count stop ⌝ }
+{
+    let registers = *x;
+    State {
+        pc,
+        x: registers,
+        count,
+        stop,
+    }
+}
 
 // One step. Refuses with 1, 2, 3 and 5.
 #[no_mangle]
@@ -21,13 +34,7 @@ pub extern "C" fn phuyurik_step(
 ) -> u32
     ensures { λ r. ⌜ (reply r (state (now (pc .exit)) (now (x .exit)) (now (count .exit)) (now (stop .exit))), now (mem .exit), now (row .exit)) ≡ stepCall (world (state (now (pc .entry)) (now (x .entry)) (now (count .entry)) (now (stop .entry))) (now (mem .entry)) (now (row .entry))) ⌝ }
 {
-    let registers = *x;
-    let s = State {
-        pc: *pc,
-        x: registers,
-        count: *count,
-        stop: *stop,
-    };
+    let s = state_of(*pc, x, *count, *stop);
     let done = machine::step(s, mem, row);
     let check = done.check;
     if let Check::Refused(why) = check {
@@ -56,13 +63,7 @@ pub extern "C" fn phuyurik_run(
 ) -> u32
     ensures { λ r. ⌜ (reply r (state (now (pc .exit)) (now (x .exit)) (now (count .exit)) (now (stop .exit)), now (retired .exit)), now (mem .exit), now (row .exit)) ≡ runCall budget (world (state (now (pc .entry)) (now (x .entry)) (now (count .entry)) (now (stop .entry))) (now (mem .entry)) (now (row .entry))) (now (retired .entry)) ⌝ }
 {
-    let registers = *x;
-    let s = State {
-        pc: *pc,
-        x: registers,
-        count: *count,
-        stop: *stop,
-    };
+    let s = state_of(*pc, x, *count, *stop);
     let done = machine::run(s, mem, row, budget);
     let check = done.check;
     if let Check::Refused(why) = check {
@@ -78,57 +79,6 @@ pub extern "C" fn phuyurik_run(
     0
 }
 
-// A state into slot k. Refuses with 4 and 5.
-#[no_mangle]
-pub extern "C" fn phuyurik_write_slot(
-    slots: &mut [u8],
-    k: usize,
-    pc: u32,
-    x: &[u32; 31],
-    count: u64,
-    stop: u8,
-) -> u32
-    ensures { λ r. ⌜ reply r (now (slots .exit)) ≡ writeCall k (state pc (now (x .entry)) count stop) (now (slots .entry)) ⌝ }
-{
-    let registers = *x;
-    let s = State {
-        pc,
-        x: registers,
-        count,
-        stop,
-    };
-    match slots::write_slot(slots, k, s) {
-        Check::Passed => 0,
-        Check::Refused(why) => why.number() as u32,
-    }
-}
-
-// The state in slot k. Refuses with 4 and 5.
-#[no_mangle]
-pub extern "C" fn phuyurik_read_slot(
-    slots: &[u8],
-    k: usize,
-    pc: &mut u32,
-    x: &mut [u32; 31],
-    count: &mut u64,
-    stop: &mut u8,
-) -> u32
-    ensures { λ r. ⌜ reply r (state (now (pc .exit)) (now (x .exit)) (now (count .exit)) (now (stop .exit))) ≡ readCall k (now (slots .entry)) (state (now (pc .entry)) (now (x .entry)) (now (count .entry)) (now (stop .entry))) ⌝ }
-{
-    let back = slots::read_slot(slots, k);
-    let check = back.check;
-    if let Check::Refused(why) = check {
-        return why.number() as u32;
-    }
-    let s = back.state;
-    let registers = s.x;
-    *pc = s.pc;
-    *x = registers;
-    *count = s.count;
-    *stop = s.stop;
-    0
-}
-
 // Reads slot k, runs it for at most budget steps and writes it back. Refuses with 1 to 5.
 #[no_mangle]
 pub extern "C" fn phuyurik_run_slot(
@@ -141,7 +91,7 @@ pub extern "C" fn phuyurik_run_slot(
 ) -> u32
     ensures { λ r. ⌜ (reply r (now (retired .exit)), now (mem .exit), now (row .exit), now (slots .exit)) ≡ resumeCall budget k (now (mem .entry)) (now (row .entry)) (now (slots .entry)) (now (retired .entry)) ⌝ }
 {
-    match slots::run_slot(mem, row, slots, k, budget) {
+    match resume::run_slot(mem, row, slots, k, budget) {
         Resumed::Retired(n) => {
             *retired = n;
             0

@@ -4,7 +4,7 @@ use calls::inst_in;
 use disassembler::Written;
 use isa::Built;
 ghost use mathlib.Core.Path.{_≡_};
-ghost use Rattle.calls.specs.Calls.{reply};
+ghost use Rattle.answers.specs.Replies.{reply};
 ghost use Rattle.c_texts.specs.Texts.{textCall, wordTextCall, halfTextCall, instTextCall, listCall};
 
 // The length of a text that was written, or the refusal's number.

@@ -5,19 +5,14 @@ use Prim.Native.Nat.{ℕ, _/_}
 use native.Mathlib.Omega.{arith}
 use lib.Dec.{T, eqb}
 use Rattle.word.specs.Bits.{bits}
-use Rattle.word.proofs.Rows.{found}
+use Rattle.word.proofs.Rows.{_and_, found}
 use Rattle.word.proofs.Sweep.{every, at}
 use Rattle.isa.specs.Fields.{opcode, funct3, rd, rs1, rs2, funct12, immI, immS, immB}
-use Rattle.isa.specs.Decoding.{decoded, opcodes, jalrOf, branchOf, loadOf, storeOf, fenceOf, systemOf, systems}
+use Rattle.isa.specs.Decoding.{decoded, opcodes, decodeJalr, decodeBranch, decodeLoad, decodeStore, decodeFence, decodeSystem, systems}
 use Rattle.isa.specs.declared.Inst.{Inst}
 use Rattle.isa.specs.declared.Decoded.{Decoded}
 use Rattle.isa.specs.declared.Decoded.the-variants.{Legal, Illegal}
 use Rattle.chart.specs.Chart.{none, classOf, charted}
-
--- a table's rows, one after the other
-infixr 10 _and_
-abbrev _and_ : {A B : Type 0} → A → B → A × B
-a and b = (a, b)
 
 -- what is not legal, as a type and as a test
 abbrev Nothing : Decoded → Type 0
@@ -53,7 +48,7 @@ module _ (w : ℕ) (z : charted w ≡ none) where
   word : (k : ℕ) (d : Decoded) → T (not (eqb (charted k) none)) → w ≡ k → Nothing d
   word k d t e = absurd (rw (← e, z) at t)
 
-  system : Nothing (systemOf w)
+  system : Nothing (decodeSystem w)
   unfolding classOf
   system = found Nothing Illegal refl systems w (λ i. Legal i) (word 0x00000073 _ tt and word 0x00100073 _ tt and tt)
 
@@ -64,13 +59,13 @@ module _ (w : ℕ) (z : charted w ≡ none) where
       (full 0b0110111 _ tt
       and full 0b0010111 _ tt
       and full 0b1101111 _ tt
-      and row 0b1100111 (λ f3. jalrOf f3 (rd w) (rs1 w) (immI w)) tt
-      and row 0b1100011 (λ f3. branchOf f3 (rs1 w) (rs2 w) (immB w)) tt
-      and row 0b0000011 (λ f3. loadOf f3 (rd w) (rs1 w) (immI w)) tt
-      and row 0b0100011 (λ f3. storeOf f3 (rs1 w) (rs2 w) (immS w)) tt
+      and row 0b1100111 (λ f3. decodeJalr f3 (rd w) (rs1 w) (immI w)) tt
+      and row 0b1100011 (λ f3. decodeBranch f3 (rs1 w) (rs2 w) (immB w)) tt
+      and row 0b0000011 (λ f3. decodeLoad f3 (rd w) (rs1 w) (immI w)) tt
+      and row 0b0100011 (λ f3. decodeStore f3 (rs1 w) (rs2 w) (immS w)) tt
       and full 0b0010011 _ tt
       and full 0b0110011 _ tt
-      and row 0b0001111 (λ f3. fenceOf f3 (rd w) (rs1 w) (funct12 w)) tt
+      and row 0b0001111 (λ f3. decodeFence f3 (rd w) (rs1 w) (funct12 w)) tt
       and (λ e. system)
       and tt)
 

@@ -15,7 +15,7 @@ ghost use mathlib.Core.List.{[], _∷_};
 ghost use Rattle.word.specs.Tables.{find};
 ghost use Rattle.isa.specs.declared.Decoded.the-variants.{Legal, Illegal};
 ghost use Rattle.isa.specs.Fields.{immI, immS, immB, immJ};
-ghost use Rattle.isa.specs.Decoding.{branchOf, loadOf, storeOf, rights, shiftOf, immediateOf, ariths, others, arithOf, mulDivOf, registerOf, systemOf, decoded};
+ghost use Rattle.isa.specs.Decoding.{decodeBranch, decodeLoad, decodeStore, rights, decodeShift, decodeImmediate, ariths, others, decodeArith, decodeMulDiv, decodeRegister, decodeSystem, decoded};
 
 // The opcodes, as the manual names them.
 const LUI: u32 = 0b0110111;
@@ -91,7 +91,7 @@ fn if_zero(code: u32, inst: Inst) -> Decoded
 
 // BRANCH, by funct3.
 fn branch(funct3: u32, rs1: Reg, rs2: Reg, imm: u32) -> Decoded
-    ensures { λ r. ⌜ r ≡ branchOf funct3 rs1 rs2 imm ⌝ }
+    ensures { λ r. ⌜ r ≡ decodeBranch funct3 rs1 rs2 imm ⌝ }
 {
     match funct3 {
         0b000 => Decoded::Legal(Inst::Branch(Cond::Beq, rs1, rs2, imm)),
@@ -106,7 +106,7 @@ fn branch(funct3: u32, rs1: Reg, rs2: Reg, imm: u32) -> Decoded
 
 // LOAD, by funct3.
 fn load(funct3: u32, rd: Reg, rs1: Reg, imm: u32) -> Decoded
-    ensures { λ r. ⌜ r ≡ loadOf funct3 rd rs1 imm ⌝ }
+    ensures { λ r. ⌜ r ≡ decodeLoad funct3 rd rs1 imm ⌝ }
 {
     match funct3 {
         0b000 => Decoded::Legal(Inst::Load(LoadOp::Lb, rd, rs1, imm)),
@@ -120,7 +120,7 @@ fn load(funct3: u32, rd: Reg, rs1: Reg, imm: u32) -> Decoded
 
 // STORE, by funct3.
 fn store(funct3: u32, rs1: Reg, rs2: Reg, imm: u32) -> Decoded
-    ensures { λ r. ⌜ r ≡ storeOf funct3 rs1 rs2 imm ⌝ }
+    ensures { λ r. ⌜ r ≡ decodeStore funct3 rs1 rs2 imm ⌝ }
 {
     match funct3 {
         0b000 => Decoded::Legal(Inst::Store(StoreOp::Sb, rs1, rs2, imm)),
@@ -132,7 +132,7 @@ fn store(funct3: u32, rs1: Reg, rs2: Reg, imm: u32) -> Decoded
 
 // OP-IMM with funct3 101, by funct7.
 fn shift_right(funct7: u32, rd: Reg, rs1: Reg, amount: u32) -> Decoded
-    ensures { λ r. ⌜ r ≡ shiftOf rights funct7 rd rs1 amount ⌝ }
+    ensures { λ r. ⌜ r ≡ decodeShift rights funct7 rd rs1 amount ⌝ }
 {
     match funct7 {
         0b0000000 => Decoded::Legal(Inst::Shift(ShiftOp::Srli, rd, rs1, amount)),
@@ -143,7 +143,7 @@ fn shift_right(funct7: u32, rd: Reg, rs1: Reg, amount: u32) -> Decoded
 
 // OP-IMM, by funct3.
 fn immediate(funct3: u32, funct7: u32, rd: Reg, rs1: Reg, amount: u32, imm: u32) -> Decoded
-    ensures { λ r. ⌜ r ≡ immediateOf funct3 funct7 rd rs1 amount imm ⌝ }
+    ensures { λ r. ⌜ r ≡ decodeImmediate funct3 funct7 rd rs1 amount imm ⌝ }
 {
     match funct3 {
         0b000 => Decoded::Legal(Inst::Imm(ImmOp::Addi, rd, rs1, imm)),
@@ -160,7 +160,7 @@ fn immediate(funct3: u32, funct7: u32, rd: Reg, rs1: Reg, amount: u32, imm: u32)
 
 // OP with funct7 0000000, by funct3.
 fn arith(funct3: u32, rd: Reg, rs1: Reg, rs2: Reg) -> Decoded
-    ensures { λ r. ⌜ r ≡ arithOf ariths funct3 rd rs1 rs2 ⌝ }
+    ensures { λ r. ⌜ r ≡ decodeArith ariths funct3 rd rs1 rs2 ⌝ }
 {
     match funct3 {
         0b000 => Decoded::Legal(Inst::Arith(ArithOp::Add, rd, rs1, rs2)),
@@ -177,7 +177,7 @@ fn arith(funct3: u32, rd: Reg, rs1: Reg, rs2: Reg) -> Decoded
 
 // OP with funct7 0100000, by funct3.
 fn other_arith(funct3: u32, rd: Reg, rs1: Reg, rs2: Reg) -> Decoded
-    ensures { λ r. ⌜ r ≡ arithOf others funct3 rd rs1 rs2 ⌝ }
+    ensures { λ r. ⌜ r ≡ decodeArith others funct3 rd rs1 rs2 ⌝ }
 {
     match funct3 {
         0b000 => Decoded::Legal(Inst::Arith(ArithOp::Sub, rd, rs1, rs2)),
@@ -188,7 +188,7 @@ fn other_arith(funct3: u32, rd: Reg, rs1: Reg, rs2: Reg) -> Decoded
 
 // OP with funct7 0000001, by funct3: the multiplications and divisions.
 fn mul_div(funct3: u32, rd: Reg, rs1: Reg, rs2: Reg) -> Decoded
-    ensures { λ r. ⌜ r ≡ mulDivOf funct3 rd rs1 rs2 ⌝ }
+    ensures { λ r. ⌜ r ≡ decodeMulDiv funct3 rd rs1 rs2 ⌝ }
 {
     match funct3 {
         0b000 => Decoded::Legal(Inst::MulDiv(MulDivOp::Mul, rd, rs1, rs2)),
@@ -205,7 +205,7 @@ fn mul_div(funct3: u32, rd: Reg, rs1: Reg, rs2: Reg) -> Decoded
 
 // OP, by funct7.
 fn register(funct7: u32, funct3: u32, rd: Reg, rs1: Reg, rs2: Reg) -> Decoded
-    ensures { λ r. ⌜ r ≡ registerOf funct7 funct3 rd rs1 rs2 ⌝ }
+    ensures { λ r. ⌜ r ≡ decodeRegister funct7 funct3 rd rs1 rs2 ⌝ }
 {
     match funct7 {
         0b0000000 => arith(funct3, rd, rs1, rs2),
@@ -217,7 +217,7 @@ fn register(funct7: u32, funct3: u32, rd: Reg, rs1: Reg, rs2: Reg) -> Decoded
 
 // SYSTEM: two whole words are legal, and no others.
 fn system(bits: u32) -> Decoded
-    ensures { λ r. ⌜ r ≡ systemOf bits ⌝ }
+    ensures { λ r. ⌜ r ≡ decodeSystem bits ⌝ }
 {
     match bits {
         0x0000_0073 => Decoded::Legal(Inst::Ecall),

@@ -18,41 +18,41 @@ use Rattle.text.specs.Text.{textOf, shortTextOf}
 use Rattle.disassembler.specs.declared.Written.{Written}
 use Rattle.disassembler.specs.declared.Written.the-variants as W
 
-pub record Outcome : Type 0 where
+pub record TextOutcome : Type 0 where
   pub answer : Written
   pub room : List ℕ
 
-abbrev pub outcome : Written → List ℕ → Outcome
-outcome a room = record { answer = a; room = room }
+abbrev pub textOutcome : Written → List ℕ → TextOutcome
+textOutcome a room = record { answer = a; room = room }
 
 -- the answer is the length; bytes of the room after the text stay
-abbrev pub filled : List ℕ → List ℕ → Outcome
-filled text room = outcome (W.Length (length text)) (fronted text room)
+abbrev pub roomFilled : List ℕ → List ℕ → TextOutcome
+roomFilled text room = textOutcome (W.Length (length text)) (fronted text room)
 
 -- every byte stays
-abbrev pub kept : Refusal → List ℕ → Outcome
-kept r room = outcome (W.Refused r) room
+abbrev pub roomKept : Refusal → List ℕ → TextOutcome
+roomKept r room = textOutcome (W.Refused r) room
 
 -- 6 before all else: text room under 24 bytes
-abbrev pub roomy : List ℕ → Outcome → Outcome
-roomy room rest = cond (leb 24 (length room)) rest (kept R.Room room)
+abbrev pub roomy : List ℕ → TextOutcome → TextOutcome
+roomy room rest = cond (leb 24 (length room)) rest (roomKept R.Room room)
 
 -- 7: no legal instruction in the given bits
-unfoldable pub meaning : Decoded → (Inst → List ℕ) → List ℕ → Outcome
-meaning (Legal i) text room = filled (text i) room
-meaning Illegal text room = kept R.NoInstruction room
+unfoldable pub meaning : Decoded → (Inst → List ℕ) → List ℕ → TextOutcome
+meaning (Legal i) text room = roomFilled (text i) room
+meaning Illegal text room = roomKept R.NoInstruction room
 
 -- the text of 32 bits
-abbrev pub wordEntry : ℕ → List ℕ → Outcome
+abbrev pub wordEntry : ℕ → List ℕ → TextOutcome
 wordEntry bits room = roomy room (meaning (decoded bits) textOf room)
 
 -- the text of 16 bits
-abbrev pub halfEntry : ℕ → List ℕ → Outcome
+abbrev pub halfEntry : ℕ → List ℕ → TextOutcome
 halfEntry bits room = roomy room (meaning (expanded bits) shortTextOf room)
 
 -- the text of an instruction; 8: a field out of range, or an odd branch or jal offset
-abbrev pub instEntry : Inst → List ℕ → Outcome
-instEntry i room = roomy room (cond (inRange i) (filled (textOf i) room) (kept R.Field room))
+abbrev pub instEntry : Inst → List ℕ → TextOutcome
+instEntry i room = roomy room (cond (inRange i) (roomFilled (textOf i) room) (roomKept R.Field room))
 
 -- in the paper's terms
 abbrev pub ofWritten : Written → Answer ℕ

@@ -30,6 +30,7 @@ effectOf (Auipc rd field) len pc x m f = computes rd (sum pc (upperField field))
 -- the link is pc plus the instruction's own length
 effectOf (Jal rd imm) len pc x m f = done (Next rd (sum pc len) (sum pc imm)) m f
 effectOf (Jalr rd rs1 imm) len pc x m f = done (Next rd (sum pc len) (evened (sum (registerOf x rs1) imm))) m f
+-- a branch writes no register: x0 drops the 0
 effectOf (Branch o rs1 rs2 imm) len pc x m f =
     done (Next x0 0 (cond (takes o (registerOf x rs1) (registerOf x rs2)) (sum pc imm) (sum pc len))) m f
 effectOf (Load o rd rs1 imm) len pc x m f = done (loaded o rd (sum (registerOf x rs1) imm) (sum pc len) m f) m f

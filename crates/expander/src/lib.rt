@@ -14,10 +14,10 @@ ghost use Rattle.isa.specs.declared.Inst.the-variants.{Arith};
 ghost use Rattle.word.specs.Bits.{bits};
 ghost use Rattle.word.specs.Tables.{find};
 ghost use Rattle.isa.specs.Rvc.{
-  rd5,
-  rs5,
-  rd3,
-  rs3,
+  reg11-7,
+  reg6-2,
+  short9-7,
+  short4-2,
   imm6,
   fieldLui,
   imm16sp,
@@ -62,27 +62,27 @@ ghost use Rattle.isa.specs.Rvc.{
 // ---- fields
 
 // rd or rs1, and rs2, of five bits.
-fn rd5(h: u32) -> Reg
-    ensures { λ r. ⌜ r ≡ rd5 h ⌝ }
+fn reg_11_7(h: u32) -> Reg
+    ensures { λ r. ⌜ r ≡ reg11-7 h ⌝ }
 {
     Reg::field5(h >> 7)
 }
 
-fn rs5(h: u32) -> Reg
-    ensures { λ r. ⌜ r ≡ rs5 h ⌝ }
+fn reg_6_2(h: u32) -> Reg
+    ensures { λ r. ⌜ r ≡ reg6-2 h ⌝ }
 {
     Reg::field5(h >> 2)
 }
 
 // rs1′ or rd′, and rs2′ or rd′, of three bits: x8 to x15.
-fn rd3(h: u32) -> Reg
-    ensures { λ r. ⌜ r ≡ rd3 h ⌝ }
+fn short_9_7(h: u32) -> Reg
+    ensures { λ r. ⌜ r ≡ short9-7 h ⌝ }
 {
     Reg::field3(h >> 7)
 }
 
-fn rs3(h: u32) -> Reg
-    ensures { λ r. ⌜ r ≡ rs3 h ⌝ }
+fn short_4_2(h: u32) -> Reg
+    ensures { λ r. ⌜ r ≡ short4-2 h ⌝ }
 {
     Reg::field3(h >> 2)
 }
@@ -225,19 +225,19 @@ fn c_addi4spn(h: u32) -> Decoded
     ensures { λ r. ⌜ r ≡ c-addi4spn h ⌝ }
 {
     let imm = imm4spn(h);
-    nonzero(imm, Inst::Imm(ImmOp::Addi, rs3(h), Reg::STACK, imm))
+    nonzero(imm, Inst::Imm(ImmOp::Addi, short_4_2(h), Reg::STACK, imm))
 }
 
 fn c_lw(h: u32) -> Decoded
     ensures { λ r. ⌜ r ≡ c-lw h ⌝ }
 {
-    Decoded::Legal(Inst::Load(LoadOp::Lw, rs3(h), rd3(h), imm_lw(h)))
+    Decoded::Legal(Inst::Load(LoadOp::Lw, short_4_2(h), short_9_7(h), imm_lw(h)))
 }
 
 fn c_sw(h: u32) -> Decoded
     ensures { λ r. ⌜ r ≡ c-sw h ⌝ }
 {
-    Decoded::Legal(Inst::Store(StoreOp::Sw, rd3(h), rs3(h), imm_lw(h)))
+    Decoded::Legal(Inst::Store(StoreOp::Sw, short_9_7(h), short_4_2(h), imm_lw(h)))
 }
 
 fn quadrant0(h: u32) -> Decoded
@@ -257,7 +257,7 @@ fn quadrant0(h: u32) -> Decoded
 fn c_addi(h: u32) -> Decoded
     ensures { λ r. ⌜ r ≡ c-addi h ⌝ }
 {
-    let rd = rd5(h);
+    let rd = reg_11_7(h);
     Decoded::Legal(Inst::Imm(ImmOp::Addi, rd, rd, imm6(h)))
 }
 
@@ -270,7 +270,7 @@ fn c_jal(h: u32) -> Decoded
 fn c_li(h: u32) -> Decoded
     ensures { λ r. ⌜ r ≡ c-li h ⌝ }
 {
-    Decoded::Legal(Inst::Imm(ImmOp::Addi, rd5(h), Reg::ZERO, imm6(h)))
+    Decoded::Legal(Inst::Imm(ImmOp::Addi, reg_11_7(h), Reg::ZERO, imm6(h)))
 }
 
 fn c_addi16sp(h: u32) -> Decoded
@@ -284,7 +284,7 @@ fn c_lui(h: u32) -> Decoded
     ensures { λ r. ⌜ r ≡ c-lui h ⌝ }
 {
     let field = field_lui(h);
-    nonzero(field, Inst::Lui(rd5(h), field))
+    nonzero(field, Inst::Lui(reg_11_7(h), field))
 }
 
 // C.ADDI16SP where rd is the stack pointer, x2, else C.LUI.
@@ -302,7 +302,7 @@ fn c_upper(h: u32) -> Decoded
 fn c_shift(o: ShiftOp, h: u32) -> Decoded
     ensures { λ r. ⌜ r ≡ c-shift o h ⌝ }
 {
-    let rd = rd3(h);
+    let rd = short_9_7(h);
     let amount = rs_number(h);
     clear12(h, Inst::Shift(o, rd, rd, amount))
 }
@@ -310,16 +310,16 @@ fn c_shift(o: ShiftOp, h: u32) -> Decoded
 fn c_andi(h: u32) -> Decoded
     ensures { λ r. ⌜ r ≡ c-andi h ⌝ }
 {
-    let rd = rd3(h);
+    let rd = short_9_7(h);
     Decoded::Legal(Inst::Imm(ImmOp::Andi, rd, rd, imm6(h)))
 }
 
 // C.SUB, C.XOR, C.OR and C.AND.
 fn c_arith(o: ArithOp, h: u32) -> Decoded
-    ensures { λ r. ⌜ r ≡ clear12 h (Arith o (rd3 h) (rd3 h) (rs3 h)) ⌝ }
+    ensures { λ r. ⌜ r ≡ clear12 h (Arith o (short9-7 h) (short9-7 h) (short4-2 h)) ⌝ }
 {
-    let rd = rd3(h);
-    clear12(h, Inst::Arith(o, rd, rd, rs3(h)))
+    let rd = short_9_7(h);
+    clear12(h, Inst::Arith(o, rd, rd, short_4_2(h)))
 }
 
 // The four above, by the bits 6 to 5.
@@ -358,7 +358,7 @@ fn c_j(h: u32) -> Decoded
 fn c_branch(o: Cond, h: u32) -> Decoded
     ensures { λ r. ⌜ r ≡ c-branch o h ⌝ }
 {
-    Decoded::Legal(Inst::Branch(o, rd3(h), Reg::ZERO, imm_cb(h)))
+    Decoded::Legal(Inst::Branch(o, short_9_7(h), Reg::ZERO, imm_cb(h)))
 }
 
 fn quadrant1(h: u32) -> Decoded
@@ -382,7 +382,7 @@ fn quadrant1(h: u32) -> Decoded
 fn c_slli(h: u32) -> Decoded
     ensures { λ r. ⌜ r ≡ c-slli h ⌝ }
 {
-    let rd = rd5(h);
+    let rd = reg_11_7(h);
     let amount = rs_number(h);
     clear12(h, Inst::Shift(ShiftOp::Slli, rd, rd, amount))
 }
@@ -392,20 +392,20 @@ fn c_lwsp(h: u32) -> Decoded
 {
     nonzero(
         rd_number(h),
-        Inst::Load(LoadOp::Lw, rd5(h), Reg::STACK, imm_lwsp(h)),
+        Inst::Load(LoadOp::Lw, reg_11_7(h), Reg::STACK, imm_lwsp(h)),
     )
 }
 
 fn c_jr(h: u32) -> Decoded
     ensures { λ r. ⌜ r ≡ c-jr h ⌝ }
 {
-    nonzero(rd_number(h), Inst::Jalr(Reg::ZERO, rd5(h), 0))
+    nonzero(rd_number(h), Inst::Jalr(Reg::ZERO, reg_11_7(h), 0))
 }
 
 fn c_mv(h: u32) -> Decoded
     ensures { λ r. ⌜ r ≡ c-mv h ⌝ }
 {
-    Decoded::Legal(Inst::Arith(ArithOp::Add, rd5(h), Reg::ZERO, rs5(h)))
+    Decoded::Legal(Inst::Arith(ArithOp::Add, reg_11_7(h), Reg::ZERO, reg_6_2(h)))
 }
 
 // C.EBREAK where rs1 is 0.
@@ -415,15 +415,15 @@ fn c_jalr(h: u32) -> Decoded
     if rd_number(h) == 0 {
         Decoded::Legal(Inst::Ebreak)
     } else {
-        Decoded::Legal(Inst::Jalr(Reg::LINK, rd5(h), 0))
+        Decoded::Legal(Inst::Jalr(Reg::LINK, reg_11_7(h), 0))
     }
 }
 
 fn c_add(h: u32) -> Decoded
     ensures { λ r. ⌜ r ≡ c-add h ⌝ }
 {
-    let rd = rd5(h);
-    Decoded::Legal(Inst::Arith(ArithOp::Add, rd, rd, rs5(h)))
+    let rd = reg_11_7(h);
+    Decoded::Legal(Inst::Arith(ArithOp::Add, rd, rd, reg_6_2(h)))
 }
 
 // The five above, by bit 12 and whether rs2 is 0.
@@ -441,7 +441,7 @@ fn c_register(h: u32) -> Decoded
 fn c_swsp(h: u32) -> Decoded
     ensures { λ r. ⌜ r ≡ c-swsp h ⌝ }
 {
-    Decoded::Legal(Inst::Store(StoreOp::Sw, Reg::STACK, rs5(h), imm_swsp(h)))
+    Decoded::Legal(Inst::Store(StoreOp::Sw, Reg::STACK, reg_6_2(h), imm_swsp(h)))
 }
 
 fn quadrant2(h: u32) -> Decoded

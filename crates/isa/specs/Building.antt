@@ -19,7 +19,8 @@ use Rattle.isa.specs.declared.Built.the-variants.{Instruction, OutOfRang
 use Rattle.isa.specs.Registers.{reg}
 use Rattle.isa.specs.Operations.{partsOf, sameParts}
 
--- the operations with their numbers, at the operands rd, rs1, rs2 and immediate: those with an immediate
+-- the operations with their numbers, as in Operations.antt (`BuildOfParts` keeps the two in step), at the operands rd, rs1, rs2 and immediate.
+-- First those with an immediate, as the code has them
 abbrev pub withImmediate : ℕ → ℕ → ℕ → ℕ → List (ℕ × Inst)
 withImmediate d s t v =
     (0, Lui (reg d) v)
@@ -81,13 +82,13 @@ without d s t =
 abbrev pub operations : ℕ → ℕ → ℕ → ℕ → List (ℕ × Inst)
 operations d s t v = withImmediate d s t v ++ without d s t
 
--- the row of the table with the operation's number; of no operation's number, ecall
+-- the row of the table with the operation's number. Of no operation's number any would do, since `instOf` compares the numbers
 unfoldable pub built : Parts → Inst
 built p = find Ecall (operations (p .rd) (p .rs1) (p .rs2) (p .imm)) (p .operation) (λ i. i)
 
-abbrev pub registers : Parts → Bool
-registers p = ltb (p .rd) 32 && (ltb (p .rs1) 32 && ltb (p .rs2) 32)
+abbrev pub registersOk : Parts → Bool
+registersOk p = ltb (p .rd) 32 && (ltb (p .rs1) 32 && ltb (p .rs2) 32)
 
 -- the instruction that has these numbers: none where a register's is above 31, the operation's above 47, or an operand that the operation does not have is not 0
 abbrev pub instOf : Parts → Built
-instOf p = cond (registers p && sameParts (partsOf (built p)) p) (Instruction (built p)) OutOfRange
+instOf p = cond (registersOk p && sameParts (partsOf (built p)) p) (Instruction (built p)) OutOfRange

@@ -1,4 +1,4 @@
--- The word of an instruction, by the manual's formats (section 2.2) and listings (chapter 24), and which instructions have one.
+-- The word of an instruction, by the manual's formats (sections 2.2 and 2.3) and listings (chapter 24), and which instructions have one.
 use Prim.Native.Nat.{ℕ, _+_, _*_, _%_, _^_}
 use mathlib.Core.Bool.{Bool, true, cond, _&&_}
 use lib.Dec.{eqb, ltb}

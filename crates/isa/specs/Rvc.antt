@@ -23,19 +23,19 @@ use Rattle.isa.specs.Registers.{reg, x0, ra, sp}
 
 -- ---- fields
 
--- rd or rs1, and rs2, of five bits
-abbrev pub rd5 : ℕ → Reg
-rd5 h = reg (bits h 11 7)
+-- a register's number in bits 11 to 7 (rd, rs1) or 6 to 2 (rs2)
+abbrev pub reg11-7 : ℕ → Reg
+reg11-7 h = reg (bits h 11 7)
 
-abbrev pub rs5 : ℕ → Reg
-rs5 h = reg (bits h 6 2)
+abbrev pub reg6-2 : ℕ → Reg
+reg6-2 h = reg (bits h 6 2)
 
--- rs1′ or rd′, and rs2′ or rd′, of three bits: x8 to x15
-abbrev pub rd3 : ℕ → Reg
-rd3 h = reg (bits h 9 7 + 8)
+-- x8 to x15, by three bits: 9 to 7 (rs1′; rd′ of CA and CB) or 4 to 2 (rs2′; rd′ of CIW and CL)
+abbrev pub short9-7 : ℕ → Reg
+short9-7 h = reg (bits h 9 7 + 8)
 
-abbrev pub rs3 : ℕ → Reg
-rs3 h = reg (bits h 4 2 + 8)
+abbrev pub short4-2 : ℕ → Reg
+short4-2 h = reg (bits h 4 2 + 8)
 
 -- ---- immediates: the bits of the halfword, each at its place
 
@@ -91,13 +91,13 @@ clear12 h i = cond (eqb (bits h 12 12) 0) (Legal i) Illegal
 -- ---- quadrant 0, by the bits 15 to 13
 
 abbrev pub c-addi4spn : ℕ → Decoded
-c-addi4spn h = nonzero (imm4spn h) (Imm Addi (rs3 h) sp (imm4spn h))
+c-addi4spn h = nonzero (imm4spn h) (Imm Addi (short4-2 h) sp (imm4spn h))
 
 abbrev pub c-lw : ℕ → Decoded
-c-lw h = Legal (Load Lw (rs3 h) (rd3 h) (immLw h))
+c-lw h = Legal (Load Lw (short4-2 h) (short9-7 h) (immLw h))
 
 abbrev pub c-sw : ℕ → Decoded
-c-sw h = Legal (Store Sw (rd3 h) (rs3 h) (immLw h))
+c-sw h = Legal (Store Sw (short9-7 h) (short4-2 h) (immLw h))
 
 abbrev pub quadrant0 : List (ℕ × (ℕ → Decoded))
 quadrant0 = (0b000, c-addi4spn) ∷ (0b010, c-lw) ∷ (0b110, c-sw) ∷ []
@@ -106,19 +106,19 @@ quadrant0 = (0b000, c-addi4spn) ∷ (0b010, c-lw) ∷ (0b110, c-sw) ∷ []
 
 -- C.NOP too
 abbrev pub c-addi : ℕ → Decoded
-c-addi h = Legal (Imm Addi (rd5 h) (rd5 h) (imm6 h))
+c-addi h = Legal (Imm Addi (reg11-7 h) (reg11-7 h) (imm6 h))
 
 abbrev pub c-jal : ℕ → Decoded
 c-jal h = Legal (Jal ra (immCj h))
 
 abbrev pub c-li : ℕ → Decoded
-c-li h = Legal (Imm Addi (rd5 h) x0 (imm6 h))
+c-li h = Legal (Imm Addi (reg11-7 h) x0 (imm6 h))
 
 abbrev pub c-addi16sp : ℕ → Decoded
 c-addi16sp h = nonzero (imm16sp h) (Imm Addi sp sp (imm16sp h))
 
 abbrev pub c-lui : ℕ → Decoded
-c-lui h = nonzero (fieldLui h) (Lui (rd5 h) (fieldLui h))
+c-lui h = nonzero (fieldLui h) (Lui (reg11-7 h) (fieldLui h))
 
 -- C.ADDI16SP where rd is 2, else C.LUI
 abbrev pub c-upper : ℕ → Decoded
@@ -126,19 +126,19 @@ c-upper h = cond (eqb (bits h 11 7) 2) (c-addi16sp h) (c-lui h)
 
 -- C.SRLI and C.SRAI
 abbrev pub c-shift : ShiftOp → ℕ → Decoded
-c-shift o h = clear12 h (Shift o (rd3 h) (rd3 h) (bits h 6 2))
+c-shift o h = clear12 h (Shift o (short9-7 h) (short9-7 h) (bits h 6 2))
 
 abbrev pub c-andi : ℕ → Decoded
-c-andi h = Legal (Imm Andi (rd3 h) (rd3 h) (imm6 h))
+c-andi h = Legal (Imm Andi (short9-7 h) (short9-7 h) (imm6 h))
 
 -- C.SUB, C.XOR, C.OR and C.AND, by the bits 6 to 5
 abbrev pub pairs : List (ℕ × ArithOp)
 pairs = (0b00, Sub) ∷ (0b01, Xor) ∷ (0b10, Or) ∷ (0b11, And) ∷ []
 
 abbrev pub c-pair : ℕ → Decoded
-c-pair h = find Illegal pairs (bits h 6 5) (λ o. clear12 h (Arith o (rd3 h) (rd3 h) (rs3 h)))
+c-pair h = find Illegal pairs (bits h 6 5) (λ o. clear12 h (Arith o (short9-7 h) (short9-7 h) (short4-2 h)))
 
--- MISC-ALU, by the bits 11 to 10
+-- MISC-ALU, by the bits 11 to 10. A row holds a function of the halfword; the row that is found is applied to h
 abbrev pub alus : List (ℕ × (ℕ → Decoded))
 alus = (0b00, c-shift Srli) ∷ (0b01, c-shift Srai) ∷ (0b10, c-andi) ∷ (0b11, c-pair) ∷ []
 
@@ -153,7 +153,7 @@ c-j h = Legal (Jal x0 (immCj h))
 
 -- C.BEQZ and C.BNEZ
 abbrev pub c-branch : Cond → ℕ → Decoded
-c-branch o h = Legal (Branch o (rd3 h) x0 (immCb h))
+c-branch o h = Legal (Branch o (short9-7 h) x0 (immCb h))
 
 abbrev pub quadrant1 : List (ℕ × (ℕ → Decoded))
 quadrant1 =
@@ -170,30 +170,30 @@ quadrant1 =
 -- ---- quadrant 2
 
 abbrev pub c-slli : ℕ → Decoded
-c-slli h = clear12 h (Shift Slli (rd5 h) (rd5 h) (bits h 6 2))
+c-slli h = clear12 h (Shift Slli (reg11-7 h) (reg11-7 h) (bits h 6 2))
 
 abbrev pub c-lwsp : ℕ → Decoded
-c-lwsp h = nonzero (bits h 11 7) (Load Lw (rd5 h) sp (immLwsp h))
+c-lwsp h = nonzero (bits h 11 7) (Load Lw (reg11-7 h) sp (immLwsp h))
 
 abbrev pub c-jr : ℕ → Decoded
-c-jr h = nonzero (bits h 11 7) (Jalr x0 (rd5 h) 0)
+c-jr h = nonzero (bits h 11 7) (Jalr x0 (reg11-7 h) 0)
 
 abbrev pub c-mv : ℕ → Decoded
-c-mv h = Legal (Arith Add (rd5 h) x0 (rs5 h))
+c-mv h = Legal (Arith Add (reg11-7 h) x0 (reg6-2 h))
 
 -- C.EBREAK where rs1 is 0
 abbrev pub c-jalr : ℕ → Decoded
-c-jalr h = Legal (cond (eqb (bits h 11 7) 0) Ebreak (Jalr ra (rd5 h) 0))
+c-jalr h = Legal (cond (eqb (bits h 11 7) 0) Ebreak (Jalr ra (reg11-7 h) 0))
 
 abbrev pub c-add : ℕ → Decoded
-c-add h = Legal (Arith Add (rd5 h) (rd5 h) (rs5 h))
+c-add h = Legal (Arith Add (reg11-7 h) (reg11-7 h) (reg6-2 h))
 
 -- by bit 12 and whether rs2 is 0
 abbrev pub c-register : ℕ → Decoded
 c-register h = cond (eqb (bits h 12 12) 0) (cond (eqb (bits h 6 2) 0) (c-jr h) (c-mv h)) (cond (eqb (bits h 6 2) 0) (c-jalr h) (c-add h))
 
 abbrev pub c-swsp : ℕ → Decoded
-c-swsp h = Legal (Store Sw sp (rs5 h) (immSwsp h))
+c-swsp h = Legal (Store Sw sp (reg6-2 h) (immSwsp h))
 
 abbrev pub quadrant2 : List (ℕ × (ℕ → Decoded))
 quadrant2 = (0b000, c-slli) ∷ (0b010, c-lwsp) ∷ (0b100, c-register) ∷ (0b110, c-swsp) ∷ []

@@ -1,3 +1,3 @@
 fn main() {
-    lister::run();
+    lister::list_from(libc::STDIN_FILENO);
 }

@@ -1,6 +1,5 @@
-// The listing program: reads an image from standard input and writes its listing to standard
+// The listing program's reading and writing: an image from a descriptor, its listing to standard
 // output, a buffer at a time.
-use libc::STDIN_FILENO;
 use libc::STDOUT_FILENO;
 use listing::list;
 ghost use Prim.Native.Nat.{_≤_, _<_};
@@ -30,8 +29,8 @@ fn write_listing(image: &[u8]) {
 }
 
 // One byte more than an image may have tells those that are too long.
-pub fn run() {
+pub fn list_from(fd: i32) {
     let mut image = [0u8; 65537];
-    let n = io::read_full(STDIN_FILENO, &mut image);
+    let n = io::read_full(fd, &mut image);
     write_listing(&image[..n]);
 }

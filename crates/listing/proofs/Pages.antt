@@ -12,7 +12,8 @@ use borrow.Author.Tests.{lt-ltb, le-ltb, le-leb, lt-leb}
 use Rattle.word.proofs.Bools.{below}
 use Rattle.listing.specs.declared.Listed.{Listed}
 use Rattle.listing.specs.Listing.{Lines, lines, lineAt, linesFrom, before, pageFrom, pageOf, Page, page, listEntry}
-use Rattle.listing.proofs.Lines.{Loads, line-fits, line-moves}
+use Rattle.octets.proofs.Bytes.{Bytes}
+use Rattle.listing.proofs.Lines.{line-fits, line-moves}
 
 module _ (image : List ℕ) where
   -- ---- the lines, with one more than enough
@@ -91,7 +92,7 @@ module _ (image : List ℕ) where
       go zero g = absurd (omega arith)
       go (suc n) g = rw (page-on n left a h k) (omega (arith, line-moves image a h, page-above n (left - length (lineAt image a .text)) (lineAt image a .next)))
 
-  module _ (l : Loads image) where
+  module _ (l : Bytes image) where
     from-fits : (n left a : ℕ) → length (pageFrom n image left a .text) ≤ left
     unfolding pageFrom
     from-fits zero left a = omega arith

@@ -8,7 +8,8 @@ use lib.ListN.{length, length-append}
 use Rattle.ascii.specs.Rooms.{Wrote}
 use Rattle.ascii.proofs.Rooms.{then, nothing, at-front}
 use Rattle.listing.specs.Listing.{lines, lineAt, before, pageFrom, pageOf, page, listEntry}
-use Rattle.listing.proofs.Lines.{Loads, line-fits, line-moves}
+use Rattle.octets.proofs.Bytes.{Bytes}
+use Rattle.listing.proofs.Lines.{line-fits, line-moves}
 use Rattle.listing.proofs.Pages.{page-end, page-on, following}
 
 -- so far a text, and at most `more` lines follow
@@ -26,7 +27,7 @@ module _ (image : List ℕ) (from : ℕ) (room₀ : List ℕ) where
       let e : length room₀ - 0 ≡ length room₀ = omega arith in
       record { text = []; more = length image; enough = omega arith; wrote = nothing room₀ 0; fits = omega arith; rest = rw e }
 
-  pub goes-on : {room room' : List ℕ} {end end' next : ℕ} → Loads image → next < length image → end + 38 ≤ length room₀
+  pub goes-on : {room room' : List ℕ} {end end' next : ℕ} → Bytes image → next < length image → end + 38 ≤ length room₀
       → Wrote room end (lineAt image next .text) room' end' → Written image from room₀ room end next → Written image from room₀ room' end' (lineAt image next .next)
   goes-on {room' = room'} {end' = end'} {next = a} l h k v w = go (w .more) (w .enough) (w .rest)
     where

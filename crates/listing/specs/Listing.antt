@@ -69,7 +69,7 @@ linesFrom (suc n) image a = cond (ltb a (length image)) (lineAt image a .text ++
 unfoldable pub listing : List ℕ → List ℕ
 listing image = linesFrom (length image) image 0
 
--- ---- a page: whole lines from address a on, as many as have room; a line is at most 38 bytes
+-- ---- a page: whole lines from address a on, while 38 bytes are left, which hold any line
 
 abbrev pub before : Lines → Lines → Lines
 before first rest = lines (first .text ++ rest .text) (rest .next)

@@ -1,27 +1,16 @@
 -- What the entries step and run answer, and what they leave in memory and row.
 use Prim.Native.Nat.{ℕ}
 use mathlib.Core.List.{List}
-use lib.ListN.{length}
-use lib.Dec.{leb}
 use Rattle.answers.specs.Answer.{Answer}
-use Rattle.answers.specs.Checks.{unless, ofCheck}
+use Rattle.answers.specs.Checks.{ofCheck}
 use Rattle.answers.specs.declared.Check.{Check}
 use Rattle.answers.specs.declared.Check.the-variants.{Passed, Refused}
-use Rattle.answers.specs.declared.Refusal.the-variants as R
-use Rattle.part.specs.Row.{rowChecked}
+use Rattle.boards.specs.Boards.{boardChecked}
 use Rattle.state.specs.declared.State.{State}
-use Rattle.state.specs.States.{noState, wellFormed}
-use Rattle.machine.specs.Steps.{World, stepped, ran, retired}
+use Rattle.state.specs.States.{noState, stateChecked}
+use Rattle.engine.specs.Steps.{World, stepped, ran, retired}
 use Rattle.machine.specs.declared.Stepped.{Stepped}
 use Rattle.machine.specs.declared.Ran.{Ran}
-
--- refusals 1, 2 and 3, then those that follow
-abbrev pub boardChecked : List ℕ → List ℕ → Check → Check
-boardChecked m f rest = unless (leb (length m) 65536) R.MemoryTooLong (rowChecked f rest)
-
--- refusal 5
-abbrev pub stateChecked : State → Check
-stateChecked s = unless (wellFormed s) R.State Passed
 
 -- refusals 1, 2, 3 and 5
 abbrev pub checked : World → Check

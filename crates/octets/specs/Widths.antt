@@ -3,7 +3,7 @@ use Prim.Native.Nat.{ℕ}
 use Rattle.octets.specs.declared.Width.{Width}
 use Rattle.octets.specs.declared.Width.the-variants.{One, Two, Four}
 
-abbrev pub bytes : Width → ℕ
-bytes One = 1
-bytes Two = 2
-bytes Four = 4
+abbrev pub widthBytes : Width → ℕ
+widthBytes One = 1
+widthBytes Two = 2
+widthBytes Four = 4

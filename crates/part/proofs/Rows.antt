@@ -1,9 +1,9 @@
--- Laws of the fuse row: a burnt row is as long as before, a record's rules are told by its upper half, and one record that breaks them breaks them for the row. Assumes nothing.
+-- Laws of the fuse row: a burnt row is as long as before, a record's rules are told by its upper half, and the row breaks them exactly if one of its records does. Assumes nothing.
 use Prim.Native.Nat.{ℕ, zero, suc, _+_, _*_, _<_}
 use native.Mathlib.Nat.{eq-or-lt-of-le}
 use native.Mathlib.Omega.{arith}
-use mathlib.Core.Path.{_≡_, _∙_}
-use mathlib.Core.Bool.{false, _&&_, _||_, and-false}
+use mathlib.Core.Path.{_≡_, refl, _∙_}
+use mathlib.Core.Bool.{Bool, true, false, _&&_, _||_, and-false}
 use mathlib.Core.List.{List}
 use mathlib.Core.Logic.{⊎-elim}
 use lib.ListN.{length}
@@ -37,6 +37,7 @@ upper-rules k row h l =
     let a : 8 * k + 4 + 1 ≡ 8 * k + 5 = omega arith in
     rules (valueAt k row) (markAt k row) (restAt k row) (load 4 (8 * k + 4) row) (rw a at (load-add 1 3 (8 * k + 4) row (omega arith)))
 
+-- the row breaks the rules exactly if one of its records does
 pub one-breaks : (n k : ℕ) (row : List ℕ) → k < n → keepsRules k row ≡ false → allKeep n row ≡ false
 unfolding allKeep
 one-breaks zero k row h e = absurd (let z : ⊥ = omega arith in z)
@@ -45,3 +46,13 @@ one-breaks (suc n) k row h e =
     (λ (q : k ≡ n). rw (← q, e) (and-false (allKeep k row)))
     (λ (l : k < n). rw (one-breaks n k row l e))
     (eq-or-lt-of-le (omega arith))
+
+pub some-breaks : (n : ℕ) (row : List ℕ) → allKeep n row ≡ false → (k : ℕ) × (k < n) × (keepsRules k row ≡ false)
+unfolding allKeep
+some-breaks zero row e = let z : _≡_ {A = ℕ} 0 1 = cc in absurd (omega arith)
+some-breaks (suc n) row e = go (some-breaks n row) (allKeep n row) refl e
+  where
+    go : (allKeep n row ≡ false → (k : ℕ) × (k < n) × (keepsRules k row ≡ false)) → (b : Bool) → allKeep n row ≡ b → (b && keepsRules n row) ≡ false
+        → (k : ℕ) × (k < suc n) × (keepsRules k row ≡ false)
+    go f true q e = (n, omega arith, e)
+    go f false q e = let s = f q in (s .0, omega arith, s .2)

@@ -5,14 +5,14 @@ use mathlib.Core.Path.{_≡_, refl}
 use mathlib.Core.Bool.{Bool, true, false, cond, not, _&&_, and-eq-true-iff}
 use lib.Dec.{eqb, leb, ltb}
 use borrow.Author.Tests.{leb-true, ltb-true, lt-leb, not-false}
-use Rattle.octets.specs.Widths.{bytes}
+use Rattle.octets.specs.Widths.{widthBytes}
 use Rattle.octets.specs.declared.Width.{Width}
 use Rattle.octets.specs.declared.Width.the-variants.{One, Two, Four}
 use Rattle.place.specs.Map.{windowStart, windowEnd, placed}
 use Rattle.place.specs.declared.Place.{Place}
 use Rattle.place.specs.declared.Place.the-variants.{Memory, Fuse, Misaligned, Outside}
 
-pub bytes-le : (w : Width) → bytes w ≤ 4
+pub bytes-le : (w : Width) → widthBytes w ≤ 4
 bytes-le One = omega arith
 bytes-le Two = omega arith
 bytes-le Four = omega arith

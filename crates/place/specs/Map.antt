@@ -12,6 +12,7 @@ abbrev pub windowEnd : ℕ
 windowEnd = 0x80000100
 
 -- an access of n bytes at a: misaligned, then outside. In the window only words are within; byte and half accesses there count as outside.
+-- a + n is not taken modulo 2 ^ 32: an access that would pass the last address is outside.
 unfoldable pub placed : ℕ → ℕ → ℕ → Place
 placed n a size =
     cond (eqb (a % n) 0)

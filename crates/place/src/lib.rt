@@ -3,7 +3,7 @@ use octets::Width;
 ghost use mathlib.Core.Path.{_≡_};
 ghost use Prim.Native.Nat.{_%_};
 ghost use lib.Dec.{eqb};
-ghost use Rattle.octets.specs.Widths.{bytes};
+ghost use Rattle.octets.specs.Widths.{widthBytes};
 ghost use Rattle.place.specs.Map.{placed};
 
 pub enum Place {
@@ -20,7 +20,7 @@ const WINDOW_START: u32 = 0x8000_0000;
 const WINDOW_END: u32 = 0x8000_0100;
 
 fn is_aligned(address: u32, width: Width) -> bool
-    ensures { λ r. ⌜ r ≡ eqb (address % bytes width) 0 ⌝ }
+    ensures { λ r. ⌜ r ≡ eqb (address % widthBytes width) 0 ⌝ }
 {
     match width {
         Width::One => true,
@@ -30,7 +30,7 @@ fn is_aligned(address: u32, width: Width) -> bool
 }
 
 fn is_word(width: Width) -> bool
-    ensures { λ r. ⌜ r ≡ eqb (bytes width) 4 ⌝ }
+    ensures { λ r. ⌜ r ≡ eqb (widthBytes width) 4 ⌝ }
 {
     match width {
         Width::One => false,
@@ -40,7 +40,7 @@ fn is_word(width: Width) -> bool
 }
 
 fn count(width: Width) -> usize
-    ensures { λ r. ⌜ r ≡ bytes width ⌝ }
+    ensures { λ r. ⌜ r ≡ widthBytes width ⌝ }
 {
     match width {
         Width::One => 1,
@@ -51,7 +51,7 @@ fn count(width: Width) -> usize
 
 // Where an access at an address lies, with a memory of so many bytes.
 pub fn place_of(address: u32, width: Width, size: usize) -> Place
-    ensures { λ p. ⌜ p ≡ placed (bytes width) address size ⌝ }
+    ensures { λ p. ⌜ p ≡ placed (widthBytes width) address size ⌝ }
 {
     if !is_aligned(address, width) {
         return Place::Misaligned;

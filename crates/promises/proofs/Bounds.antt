@@ -2,17 +2,19 @@
 -- Assumes nothing.
 use mathlib.Core.Path.{_≡_, refl, ap}
 use mathlib.Core.Bool.{Bool, true, false}
-use mathlib.Core.List.{List, [], _∷_, _++_}
-use Prim.Native.Nat.{ℕ, zero, suc, _+_, _-_, _*_, _/_, _%_, _^_, _<_}
+use mathlib.Core.List.{List, _++_}
+use Prim.Native.Nat.{ℕ, zero, suc, _+_, _-_, _*_, _/_, _^_, _≤_, _<_}
 use native.Mathlib.Nat.{mod-lt, mod-le, div-le-self, lt-of-le-of-lt}
 use native.Mathlib.Omega.{arith}
-use lib.ListN.{length, take, drop, getD, set}
+use lib.ListN.{length, take, drop}
 use lib.Dec.{eqb, ltb}
 use lib.Pow.{pow-pos}
 use lib.Bits.{and-lt, or-lt, xor-lt}
 use lib.IntN.{ℤ, pos, negsuc, _*ℤ_}
 use lib.Signed.{ltZ, shrZ, quotZ, remZ}
 use Rattle.word.proofs.Bools.{either}
+use Rattle.word.proofs.Scatter.{low-lt}
+use Rattle.word.proofs.Bounds.{below-append, below-take, below-drop, below-set, below-get}
 use Rattle.word.proofs.Signs.{sext-lt}
 use Rattle.isa.specs.declared.Reg.{Reg}
 use Rattle.isa.specs.declared.ArithOp.{ArithOp}
@@ -25,47 +27,21 @@ use Rattle.isa.specs.declared.MulDivOp.{MulDivOp}
 use Rattle.isa.specs.declared.MulDivOp.the-variants.{Mul, Mulh, Mulhsu, Mulhu, Div, Divu, Rem, Remu}
 use Rattle.isa.specs.declared.LoadOp.{LoadOp}
 use Rattle.isa.specs.declared.LoadOp.the-variants.{Lb, Lh, Lw, Lbu, Lhu}
-use Rattle.octets.specs.Bytes.{le, load, store}
-use Rattle.octets.proofs.Bytes.{of-lt, loaded-lt}
-use Rattle.octets.specs.Widths.{bytes}
+use Rattle.octets.specs.Bytes.{littleEndian, store}
+use Rattle.octets.proofs.Bytes.{all-bytes, of-lt, load-lt}
+use Rattle.octets.specs.Widths.{widthBytes}
 use Rattle.part.specs.Row.{burnt}
 use Rattle.alu.specs.Arithmetic.{flag, amount, arithOf, immOf, shiftOf, mulDivOf}
 use Rattle.alu.specs.Integers.{signed, lowBits}
 use Rattle.access.specs.Accesses.{loadWidth, extended}
 use Rattle.state.specs.States.{registerOf, registerSet}
-use Rattle.state.specs.Sizes.{AllBelow, Fits}
+use Rattle.word.specs.Bounds.{AllBelow}
+use Rattle.state.specs.Sizes.{Fits}
 use Rattle.records.specs.Records.{ofWords, stateOf}
 
 -- a word's bound
 abbrev Word : ℕ → Type 0
 Word v = v < 2 ^ 32
-
--- ---- lists of numbers below b
-
-module _ (b : ℕ) where
-  below-append : (s t : List ℕ) → AllBelow b s → AllBelow b t → AllBelow b (s ++ t)
-  below-append [] t h k = k
-  below-append (v ∷ s) t h k = (h .0, below-append s t (h .1) k)
-
-  pub below-take : (n : ℕ) (s : List ℕ) → AllBelow b s → AllBelow b (take n s)
-  below-take zero s h = tt
-  below-take (suc n) [] h = tt
-  below-take (suc n) (v ∷ s) h = (h .0, below-take n s (h .1))
-
-  pub below-drop : (n : ℕ) (s : List ℕ) → AllBelow b s → AllBelow b (drop n s)
-  below-drop zero s h = h
-  below-drop (suc n) [] h = tt
-  below-drop (suc n) (v ∷ s) h = below-drop n s (h .1)
-
-  below-set : (s : List ℕ) (n v : ℕ) → AllBelow b s → v < b → AllBelow b (set s n v)
-  below-set [] n v h k = tt
-  below-set (w ∷ s) zero v h k = (k, h .1)
-  below-set (w ∷ s) (suc n) v h k = (h .0, below-set s n v (h .1) k)
-
-  below-get : (s : List ℕ) (n : ℕ) → 0 < b → AllBelow b s → getD s n 0 < b
-  below-get [] n p h = p
-  below-get (v ∷ s) zero p h = h .0
-  below-get (v ∷ s) (suc n) p h = below-get s n p (h .1)
 
 -- the registers
 pub register-lt : (x : List ℕ) (r : Reg) → AllBelow (2 ^ 32) x → registerOf x r < 2 ^ 32
@@ -76,15 +52,11 @@ register-below r v x h k = either (AllBelow (2 ^ 32)) (eqb (r .number) 0) _ _ h 
 
 -- ---- bytes
 
--- n bytes say less than 2 ^ (8 * n)
-pub load-lt : (n a : ℕ) (m : List ℕ) → AllBelow (2 ^ 8) m → load n a m < 2 ^ (8 * n)
-load-lt n a m h = loaded-lt n a m (λ k. below-get (2 ^ 8) m k (omega arith) h)
-
 -- the state that bytes say
 of-words-below : (n : ℕ) (m : List ℕ) → AllBelow (2 ^ 8) m → AllBelow (2 ^ 32) (ofWords n m)
 unfolding ofWords
 of-words-below zero m h = tt
-of-words-below (suc n) m h = (of-lt 4 m (λ k. below-get (2 ^ 8) m k (omega arith) h), of-words-below n (drop 4 m) (below-drop (2 ^ 8) 4 m h))
+of-words-below (suc n) m h = (of-lt 4 m (all-bytes m h), of-words-below n (drop 4 m) (below-drop (2 ^ 8) 4 m h))
 
 length-of-words : (n : ℕ) (m : List ℕ) → length (ofWords n m) ≡ n
 unfolding ofWords
@@ -101,16 +73,16 @@ read-fits m h = record {
   stop-fits = load-lt 1 136 m h;
 }
 
-le-below : (n v : ℕ) → AllBelow (2 ^ 8) (le n v)
-unfolding le
+le-below : (n v : ℕ) → AllBelow (2 ^ 8) (littleEndian n v)
+unfolding littleEndian
 le-below zero v = tt
 le-below (suc n) v = (omega arith, le-below n (v / 256))
 
 pub store-below : (n a v : ℕ) (m : List ℕ) → AllBelow (2 ^ 8) m → AllBelow (2 ^ 8) (store n a v m)
 unfolding store
 store-below n a v m h =
-    below-append (2 ^ 8) (take a m ++ le n v) (drop (a + n) m)
-    (below-append (2 ^ 8) (take a m) (le n v) (below-take (2 ^ 8) a m h) (le-below n v))
+    below-append (2 ^ 8) (take a m ++ littleEndian n v) (drop (a + n) m)
+    (below-append (2 ^ 8) (take a m) (littleEndian n v) (below-take (2 ^ 8) a m h) (le-below n v))
     (below-drop (2 ^ 8) (a + n) m h)
 
 pub burnt-below : (k v : ℕ) (f : List ℕ) → AllBelow (2 ^ 8) f → AllBelow (2 ^ 8) (burnt k v f)
@@ -119,26 +91,26 @@ burnt-below k v f h = store-below 1 (8 * k + 4) 1 (store 4 (8 * k) v f) (store-b
 
 -- ---- words
 
-pub word-lt : (n : ℕ) → n % 2 ^ 32 < 2 ^ 32
-word-lt n = mod-lt n (pow-pos 32)
+low-bits-lt : (k : ℕ) (z : ℤ) → lowBits k z < 2 ^ k
+low-bits-lt k (pos n) = mod-lt n (pow-pos k)
+low-bits-lt k (negsuc n) = let l = mod-lt n (pow-pos k) in omega arith
 
-low-lt : (k : ℕ) (z : ℤ) → lowBits k z < 2 ^ k
-low-lt k (pos n) = mod-lt n (pow-pos k)
-low-lt k (negsuc n) = let l = mod-lt n (pow-pos k) in omega arith
+pub flag-le : (t : Bool) → flag t ≤ 1
+flag-le true = omega arith
+flag-le false = omega arith
 
 flag-lt : (t : Bool) → flag t < 2 ^ 32
-flag-lt true = omega arith
-flag-lt false = omega arith
+flag-lt t = omega (arith, flag-le t)
 
 pub arith-lt : (o : ArithOp) (a b : ℕ) → a < 2 ^ 32 → b < 2 ^ 32 → arithOf o a b < 2 ^ 32
-arith-lt Add a b h k = word-lt (a + b)
-arith-lt Sub a b h k = word-lt (a + (2 ^ 32 - b))
-arith-lt Sll a b h k = word-lt (a * 2 ^ amount b)
+arith-lt Add a b h k = low-lt (a + b) 32
+arith-lt Sub a b h k = low-lt (a + (2 ^ 32 - b)) 32
+arith-lt Sll a b h k = low-lt (a * 2 ^ amount b) 32
 arith-lt Slt a b h k = flag-lt (ltZ (signed 32 a) (signed 32 b))
 arith-lt Sltu a b h k = flag-lt (ltb a b)
 arith-lt Xor a b h k = xor-lt 32 a b h k
 arith-lt Srl a b h k = lt-of-le-of-lt (div-le-self a (2 ^ amount b)) h
-arith-lt Sra a b h k = low-lt 32 (shrZ (signed 32 a) (2 ^ amount b))
+arith-lt Sra a b h k = low-bits-lt 32 (shrZ (signed 32 a) (2 ^ amount b))
 arith-lt Or a b h k = or-lt 32 a b h k
 arith-lt And a b h k = and-lt 32 a b h k
 
@@ -156,17 +128,17 @@ shift-lt Srli = arith-lt Srl
 shift-lt Srai = arith-lt Sra
 
 pub muldiv-lt : (o : MulDivOp) (a b : ℕ) → a < 2 ^ 32 → b < 2 ^ 32 → mulDivOf o a b < 2 ^ 32
-muldiv-lt Mul a b h k = word-lt (a * b)
-muldiv-lt Mulh a b h k = low-lt 32 (shrZ (signed 32 a *ℤ signed 32 b) (2 ^ 32))
-muldiv-lt Mulhsu a b h k = low-lt 32 (shrZ (signed 32 a *ℤ pos b) (2 ^ 32))
-muldiv-lt Mulhu a b h k = low-lt 32 (shrZ (pos a *ℤ pos b) (2 ^ 32))
-muldiv-lt Div a b h k = either Word (eqb b 0) _ _ (omega arith) (low-lt 32 (quotZ (signed 32 a) (signed 32 b)))
+muldiv-lt Mul a b h k = low-lt (a * b) 32
+muldiv-lt Mulh a b h k = low-bits-lt 32 (shrZ (signed 32 a *ℤ signed 32 b) (2 ^ 32))
+muldiv-lt Mulhsu a b h k = low-bits-lt 32 (shrZ (signed 32 a *ℤ pos b) (2 ^ 32))
+muldiv-lt Mulhu a b h k = low-bits-lt 32 (shrZ (pos a *ℤ pos b) (2 ^ 32))
+muldiv-lt Div a b h k = either Word (eqb b 0) _ _ (omega arith) (low-bits-lt 32 (quotZ (signed 32 a) (signed 32 b)))
 muldiv-lt Divu a b h k = either Word (eqb b 0) _ _ (omega arith) (lt-of-le-of-lt (div-le-self a b) h)
-muldiv-lt Rem a b h k = either Word (eqb b 0) _ _ h (low-lt 32 (remZ (signed 32 a) (signed 32 b)))
+muldiv-lt Rem a b h k = either Word (eqb b 0) _ _ h (low-bits-lt 32 (remZ (signed 32 a) (signed 32 b)))
 muldiv-lt Remu a b h k = either Word (eqb b 0) _ _ h (lt-of-le-of-lt (mod-le a b) h)
 
 -- what a load of so many bytes gives the register
-pub extended-lt : (o : LoadOp) (v : ℕ) → v < 2 ^ (8 * bytes (loadWidth o)) → extended o v < 2 ^ 32
+pub extended-lt : (o : LoadOp) (v : ℕ) → v < 2 ^ (8 * widthBytes (loadWidth o)) → extended o v < 2 ^ 32
 extended-lt Lb v h = sext-lt 8 v (omega arith) (omega arith) h
 extended-lt Lh v h = sext-lt 16 v (omega arith) (omega arith) h
 extended-lt Lw v h = h

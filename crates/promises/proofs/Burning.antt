@@ -14,9 +14,10 @@ use Rattle.answers.specs.declared.Check.{Check}
 use Rattle.answers.specs.declared.Check.the-variants.{Passed, Refused}
 use Rattle.part.specs.Row.{valueAt, markAt, burnt}
 use Rattle.alu.specs.Arithmetic.{flag}
-use Rattle.machine.specs.Steps.{World, stepped, ran}
+use Rattle.engine.specs.Steps.{World, stepped, ran}
 use Rattle.machine.specs.Entries.{checked, runDecided, runEntry}
-use Rattle.promises.specs.Burning.{stores, turnsIn, Start, begun, rowAfter, ifRun, storesOver, turnsOver, burntWords, Row, StaysARow, BurntOnce, KeepsValue, KeepsValueInRun, NewlyBurnt}
+use Rattle.promises.specs.Burning.{storesIn, turnsIn, Start, begun, rowAfter, ifRun, storesOver, turnsOver, burntWords, Row, StaysARow, BurntOnce, KeepsValue, KeepsValueInRun, NewlyBurnt}
+use Rattle.promises.proofs.Bounds.{flag-le}
 use Rattle.promises.proofs.Fuses.{mark-here, mark-there, value-there, row-burnt, RowStep, stays, burning, row-step}
 
 -- ---- a blank word burnt is one more
@@ -79,14 +80,14 @@ by-step k {f} r (burning j v h z) = record {
     mark′ false e = rw (mark-there j v f h (r .0) k (eqb-false k j e), no-turn (markAt k f)) (omega arith)
 
 -- n steps
-by-steps : (k n : ℕ) (w : World) → Row (w .row) → Leads k (w .row) (ran n w .row) (stores n w) (turnsIn k n w)
-unfolding ran stores turnsIn
+by-steps : (k n : ℕ) (w : World) → Row (w .row) → Leads k (w .row) (ran n w .row) (storesIn n w) (turnsIn k n w)
+unfolding ran storesIn turnsIn
 by-steps k zero w r = at-rest k (w .row) r
 by-steps k (suc n) w r = let a = by-step k r (row-step w) in join a (by-steps k n (stepped w) (a .row))
 
 -- a run, which a refusal keeps from changing the row
 by-run : (k : ℕ) (c : Check) (n : ℕ) (w : World) → Row (w .row)
-    → Leads k (w .row) (runDecided c n w .row) (ifRun c (stores n w)) (ifRun c (turnsIn k n w))
+    → Leads k (w .row) (runDecided c n w .row) (ifRun c (storesIn n w)) (ifRun c (turnsIn k n w))
 unfolding runDecided
 by-run k Passed n w r = by-steps k n w r
 by-run k (Refused why) n w r = at-rest k (w .row) r
@@ -103,10 +104,6 @@ by-starts k (e ∷ es) f r =
 
 pub stays-a-row : StaysARow
 stays-a-row es f r = by-starts 0 es f r .row
-
-flag-le : (b : Bool) → flag b ≤ 1
-flag-le true = omega arith
-flag-le false = omega arith
 
 pub burnt-once : BurntOnce
 burnt-once es f k r l = rw (by-starts k es f r .mark) (flag-le (eqb (markAt k (rowAfter es f)) 1))

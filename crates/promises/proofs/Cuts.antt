@@ -1,15 +1,19 @@
--- A cut run ends as the uncut one. A record reads back as its state, and a step keeps all that the entries ask, so each piece starts where the piece before it ended and is accepted; runs add up.
+-- A cut run ends as the uncut one. A record reads back as its state, and a step keeps all that the entries ask, so each piece starts where the piece before it ended and is accepted; runs add up. A slot that is left as it was read holds the same bytes.
 -- Assumes nothing.
-use mathlib.Core.Path.{_≡_, refl, sym, ap, _∙_}
+use mathlib.Core.Path.{_≡_, refl, sym, ap, ap₂, _∙_}
 use mathlib.Core.Bool.{Bool, true, false, and-eq-true-iff}
+use mathlib.Core.Logic.{_⊎_, inl, inr}
 use mathlib.Core.List.{List, [], _∷_}
 use Prim.Native.Nat.{ℕ, _+_, _*_, _^_}
 use native.Mathlib.Omega.{arith}
-use lib.ListN.{length, take, drop}
+use lib.ListN.{length, take, drop, length-drop, take-append-drop}
+use lib.Seq.{length-take-le, take-add}
 use lib.Dec.{eqb, leb}
+use borrow.Author.Tests.{eqb-true, eqb-false}
 use Rattle.answers.specs.Answer.{Answer, given}
 use Rattle.answers.specs.Checks.{unless}
 use Rattle.answers.proofs.Checks.{passed}
+use Rattle.answers.proofs.Order.{apart}
 use Rattle.answers.specs.declared.Refusal.{Refusal}
 use Rattle.answers.specs.declared.Refusal.the-variants as R
 use Rattle.answers.specs.declared.Check.{Check}
@@ -17,18 +21,23 @@ use Rattle.answers.specs.declared.Check.the-variants.{Passed, Refused}
 use Rattle.octets.specs.Bytes.{load}
 use Rattle.part.specs.Row.{allKeep}
 use Rattle.state.specs.declared.State.{State}
-use Rattle.state.specs.States.{noState, wellFormed}
-use Rattle.state.specs.Sizes.{AllBelow}
-use Rattle.machine.specs.Steps.{World, world, ran, retired}
-use Rattle.machine.specs.Entries.{boardChecked, stateChecked, checked, runGiven, runDecided, runEntry, ofRan}
-use Rattle.machine.proofs.Laws.{ran-add, retired-add}
+use Rattle.state.specs.States.{noState, wellFormed, stateChecked}
+use Rattle.word.specs.Bounds.{AllBelow}
+use Rattle.engine.specs.Steps.{World, world, paused, ran, retired}
+use Rattle.boards.specs.Boards.{boardChecked, longestMemory}
+use Rattle.machine.specs.Entries.{checked, runGiven, runDecided, runEntry, ofRan}
+use Rattle.engine.proofs.Laws.{ran-add, retired-add}
 use Rattle.records.specs.Records.{recordOf, stateOf, recordSound}
-use Rattle.records.proofs.Records.{length-record, rest-zero, read-back}
-use Rattle.slots.specs.Slots.{slotThere, slotAt, slotSet, writeChecked, writeDecided, writeEntry, readChecked, readDecided, readEntry, ofReadBack, slotWorld, resumeChecked, resumeDecided}
+use Rattle.records.proofs.Records.{length-record, rest-zero, read-back, write-back}
+use Rattle.slots.specs.Slots.{slotThere, slotAt, slotSet, writeChecked, writeDecided, writeEntry, ofWrite, readChecked, readDecided, readEntry, ofReadBack}
+use Rattle.resume.specs.Resuming.{sheet, slotWorld, resumeChecked, resumeGiven, resumeDecided, ofResumed}
+use Rattle.resume.specs.declared.Resumed.the-variants.{Retired}
 use Rattle.slots.proofs.Slots.{there-fits, slot-set-at, slot-set-length, take-before, drop-after}
-use Rattle.promises.specs.Cuts.{Sized, Bench, bench, pieceStart, piece, pieces, answers, total, manual, Cut, sumRetired, RetiredAddsUp, SlotRunIsPiece, WritesItsSlot}
-use Rattle.promises.proofs.Bounds.{below-take, below-drop, read-fits}
-use Rattle.promises.proofs.Refusals.{accepted-passes}
+use Rattle.promises.specs.Cuts.{Sized, Bench, bench, pieceStart, piece, pieces, answers, total, manual, Cut, sumAnswered, RetiredAddsUp, SlotRunIsPiece, SlotRunAnswers, SlotsStay, RecordOfState, WritesItsSlot}
+use Rattle.word.proofs.Bounds.{below-take, below-drop}
+use Rattle.promises.proofs.Bounds.{read-fits}
+use Rattle.promises.proofs.Refusals.{accepted-passes, slot-accepted-passes}
+use Rattle.promises.proofs.Steps.{no-budget, stays-stopped}
 use Rattle.promises.proofs.Invariants.{Good, good-passes, passes-good, good-ran}
 
 -- ---- one piece
@@ -106,16 +115,35 @@ cut k bs s m f slots z a t =
     let g : Good w = passes-good w z (accepted-passes w a) in
     rw (write-good k s slots t (g .formed)) (ends k bs (bench m f (slotSet k (recordOf s) slots)) s (holds-set k s slots (z .state-fits .x-length) t) g)
 
+manual-adds-up : (bs : List ℕ) (w : World) → sumAnswered (manual bs w) ≡ retired (total bs) w
+unfolding sumAnswered manual total retired
+manual-adds-up [] w = refl
+manual-adds-up (b ∷ bs) w = ap (λ n. retired b w + n) (manual-adds-up bs (ran b w)) ∙ sym (retired-add b (total bs) w)
+
 pub retired-adds-up : RetiredAddsUp
-unfolding sumRetired total retired
-retired-adds-up [] w = refl
-retired-adds-up (b ∷ bs) w = ap (λ n. retired b w + n) (retired-adds-up bs (ran b w)) ∙ sym (retired-add b (total bs) w)
+retired-adds-up k bs s m f slots z a t = ap sumAnswered (cut k bs s m f slots z a t .3) ∙ manual-adds-up bs (world s m f)
 
 -- ---- running a slot
 
+-- a slot that reads well is there, its state well-formed, and its bytes 137 to 143 zero
+record Reads (k : ℕ) (slots : List ℕ) : Type 0 where
+  there : slotThere k slots ≡ true
+  formed : wellFormed (stateOf (slotAt k slots)) ≡ true
+  rest : load 7 137 (slotAt k slots) ≡ 0
+
+reads : (k : ℕ) (slots : List ℕ) → readChecked k slots ≡ Passed → Reads k slots
+reads k slots e =
+    let part : List ℕ = slotAt k slots in
+    let t = passed (slotThere k slots) R.Slot _ e in
+    let s = and-eq-true-iff (wellFormed (stateOf part)) (eqb (load 7 137 part) 0) .0 (passed (recordSound part) R.State Passed (t .1) .0) in
+    record { there = t .0; formed = s .0; rest = eqb-true _ _ (s .1) }
+
+slot-bytes : (k : ℕ) (slots : List ℕ) → AllBelow (2 ^ 8) slots → AllBelow (2 ^ 8) (slotAt k slots)
+slot-bytes k slots b = below-take (2 ^ 8) 144 (drop (144 * k) slots) (below-drop (2 ^ 8) (144 * k) slots b)
+
 -- a board that is refused, or what follows it refused
 refused-board : (m f : List ℕ) (r : Refusal) → (q : Refusal) × (boardChecked m f (Refused r) ≡ Refused q)
-refused-board m f r = go (leb (length m) 65536) (eqb (length f) 512) (allKeep 64 f)
+refused-board m f r = go (leb (length m) longestMemory) (eqb (length f) 512) (allKeep 64 f)
   where
     go : (a b c : Bool) → (q : Refusal) × (unless a R.MemoryTooLong (unless b R.RowLength (unless c R.RowRecord (Refused r))) ≡ Refused q)
     go true true true = (r, refl)
@@ -155,17 +183,15 @@ module _ (b k : ℕ) (m f slots : List ℕ) where
   read : AllBelow (2 ^ 8) m → AllBelow (2 ^ 8) f → AllBelow (2 ^ 8) slots → readChecked k slots ≡ Passed → Same
   unfolding readDecided
   read mb fb sb e =
-      let part : List ℕ = slotAt k slots in
-      let t = passed (slotThere k slots) R.Slot _ e in
-      let formed : wellFormed (stateOf part) ≡ true = and-eq-true-iff _ (eqb (load 7 137 part) 0) .0 (passed (recordSound part) R.State Passed (t .1) .0) .0 in
+      let r : Reads k slots = reads k slots e in
       let a : pieceStart k lent ≡ slotWorld k m f slots = ap (λ c. world (readDecided c k slots .state) m f) e in
-      let c : checked (slotWorld k m f slots) ≡ boardChecked m f Passed = ap (λ q. boardChecked m f (unless q R.State Passed)) formed in
+      let c : checked (slotWorld k m f slots) ≡ boardChecked m f Passed = ap (λ q. boardChecked m f (unless q R.State Passed)) (r .formed) in
       let z : Sized (slotWorld k m f slots) = record {
-        state-fits = read-fits part (below-take (2 ^ 8) 144 (drop (144 * k) slots) (below-drop (2 ^ 8) (144 * k) slots sb));
+        state-fits = read-fits (slotAt k slots) (slot-bytes k slots sb);
         mem-bytes = mb;
         row-bytes = fb;
       } in
-      go (boardChecked m f Passed) (ap (boardChecked m f) e) (t .0) a c z
+      go (boardChecked m f Passed) (ap (boardChecked m f) e) (r .there) a c z
     where
       go : (d : Check) → resumeChecked k m f slots ≡ d → slotThere k slots ≡ true → pieceStart k lent ≡ slotWorld k m f slots
           → checked (slotWorld k m f slots) ≡ d → Sized (slotWorld k m f slots) → Same
@@ -179,13 +205,56 @@ slot-run-is-piece b k m f slots mb fb sb = go (readChecked k slots) refl
     go Passed e = read b k m f slots mb fb sb e
     go (Refused r) e = unread b k m f slots r e
 
--- ---- one slot written
+pub slot-run-answers : SlotRunAnswers
+unfolding resumeDecided
+slot-run-answers b k m f slots a = ap (λ c. ofResumed (resumeDecided c b k m f slots .answer)) (slot-accepted-passes k m f slots a)
+
+board-passed : (m f : List ℕ) (rest : Check) → boardChecked m f rest ≡ Passed → rest ≡ Passed
+board-passed m f rest e =
+    let l = passed (leb (length m) longestMemory) R.MemoryTooLong _ e .1 in
+    passed (allKeep 64 f) R.RowRecord rest (passed (eqb (length f) 512) R.RowLength _ l .1) .1
+
+-- ---- a slot as it was
+
+-- the bytes of slot k, set in slot k
+slot-same : (k : ℕ) (slots : List ℕ) → slotSet k (slotAt k slots) slots ≡ slots
+slot-same k slots = rw (← (take-add (144 * k) 144 slots)) (take-append-drop (144 * k + 144) slots)
+
+rests : (b : ℕ) (w : World) → (b ≡ 0) ⊎ (paused w ≡ false) → (ran b w ≡ w) × (retired b w ≡ 0)
+rests b w (inl e) = rw e (no-budget w)
+rests b w (inr e) = let s = stays-stopped b w e in (s .1, s .2)
+
+same-record : (k : ℕ) (slots : List ℕ) → AllBelow (2 ^ 8) slots → Reads k slots → recordOf (stateOf (slotAt k slots)) ≡ slotAt k slots
+same-record k slots b r =
+    let fits = there-fits k slots (r .there) in
+    write-back (slotAt k slots) (length-take-le 144 (drop (144 * k) slots) (rw length-drop (omega arith))) (slot-bytes k slots b) (r .rest)
+
+pub slots-stay : SlotsStay
+unfolding resumeDecided
+slots-stay b k m f slots sb a h =
+    let w : World = slotWorld k m f slots in
+    let c = slot-accepted-passes k m f slots a in
+    let s = rests b w h in
+    let r : Reads k slots = reads k slots (board-passed m f _ c) in
+    ap (λ q. resumeDecided q b k m f slots) c
+    ∙ ap₂ (λ n v. resumeGiven n k v slots) (s .1) (s .0)
+    ∙ ap (λ bytes. sheet (Retired 0) m f (slotSet k bytes slots)) (same-record k slots sb r)
+    ∙ ap (sheet (Retired 0) m f) (slot-same k slots)
+
+-- ---- one slot
+
+pub record-of-state : RecordOfState
+record-of-state r b l h = write-back r l b (go (eqb (load 7 137 r) 0) refl)
+  where
+    go : (t : Bool) → eqb (load 7 137 r) 0 ≡ t → load 7 137 r ≡ 0
+    go true e = eqb-true _ _ e
+    go false e = absurd (h (inr (eqb-false _ _ e)))
 
 pub writes-its-slot : WritesItsSlot
 unfolding writeDecided
 writes-its-slot k s slots f = go (writeChecked k s slots) refl
   where
-    go : (c : Check) → writeChecked k s slots ≡ c → writeDecided c k s slots .check ≡ Passed
+    go : (c : Check) → writeChecked k s slots ≡ c → ofWrite (writeDecided c k s slots) ≡ given tt
         → (take (144 * k) (writeDecided c k s slots .slots) ≡ take (144 * k) slots)
         × (slotAt k (writeDecided c k s slots .slots) ≡ recordOf s)
         × (drop (144 * k + 144) (writeDecided c k s slots .slots) ≡ drop (144 * k + 144) slots)
@@ -193,4 +262,4 @@ writes-its-slot k s slots f = go (writeChecked k s slots) refl
         let i = there-fits k slots (passed (slotThere k slots) R.Slot (stateChecked s) h .0) in
         let l = length-record s (f .x-length) in
         (take-before k (recordOf s) slots l i, slot-set-at k (recordOf s) slots l i, drop-after k (recordOf s) slots l i)
-    go (Refused r) h e = let z : _≡_ {A = ℕ} 0 1 = cc in absurd (omega arith)
+    go (Refused r) h e = absurd (apart (sym e))

@@ -1,7 +1,7 @@
 -- Laws of the fuse row: burning word k writes only its value and its mark, so that all other bytes and every record's rules stay; and a step leaves the row or burns one blank word of it, by cases over the step's tests.
 -- Assumes nothing.
 use mathlib.Core.Path.{_≡_, refl, _∙_}
-use mathlib.Core.Bool.{Bool, true, false, cond, _&&_, _||_, and-false, and-eq-true-iff}
+use mathlib.Core.Bool.{Bool, true, false, cond, _&&_, _||_, and-eq-true-iff}
 use mathlib.Core.Logic.{_⊎_, inl, inr, ⊎-map}
 use mathlib.Core.List.{List}
 use Prim.Native.Nat.{ℕ, zero, suc, _+_, _-_, _*_, _^_, _≤_, _<_}
@@ -14,7 +14,7 @@ use Rattle.isa.specs.declared.Inst.{Inst}
 use Rattle.isa.specs.declared.Inst.the-variants.{Lui, Auipc, Jal, Jalr, Branch, Load, Store, Imm, Shift, Arith, Fence, Ecall, Ebreak, MulDiv}
 use Rattle.isa.specs.declared.StoreOp.{StoreOp}
 use Rattle.octets.specs.Bytes.{load, store}
-use Rattle.octets.specs.Widths.{bytes}
+use Rattle.octets.specs.Widths.{widthBytes}
 use Rattle.octets.proofs.Bytes.{length-store, load-store, load-store-other}
 use Rattle.place.specs.Map.{placed}
 use Rattle.place.specs.declared.Place.{Place}
@@ -30,7 +30,7 @@ use Rattle.execute.specs.Execution.{effectOf}
 use Rattle.fetch.specs.declared.Fetched.{Fetched}
 use Rattle.fetch.specs.declared.Fetched.the-variants.{Instruction, Fails}
 use Rattle.fetch.specs.Fetching.{fetched}
-use Rattle.machine.specs.Steps.{World, effectFetched, effectAt, next, after, paused, stepped, goesOn}
+use Rattle.engine.specs.Steps.{World, effectFetched, effectAt, next, after, paused, stepped, goesOn}
 use Rattle.promises.specs.Burning.{inWindow, storesThere, fetchedStores, burns, Row}
 
 -- ---- one word burnt
@@ -109,13 +109,18 @@ stores-at (Fuse k) o v pc m f h = go (eqb (markAt k f) 0) refl
 stores-at Misaligned o v pc m f h = stays
 stores-at Outside o v pc m f h = stays
 
+-- no store, whether it goes on or stops
+no-store : (f : List ℕ) (b : Bool) → RowStep f (b && false) f
+no-store f true = stays
+no-store f false = stays
+
 executes : (i : Inst) (len pc : ℕ) (x m f : List ℕ) → Comes (effectOf i len pc x m f) (storesThere i x (length m)) f
 unfolding effectOf
 executes (Store o rs1 rs2 imm) len pc x m f =
-    let n : ℕ = bytes (storeWidth o) in
+    let n : ℕ = widthBytes (storeWidth o) in
     let a : ℕ = sum (registerOf x rs1) imm in
     stores-at (placed n a (length m)) o (registerOf x rs2) (sum pc len) m f (placed-fuse n a (length m))
-executes (Load o rd rs1 imm) len pc x m f = rw (and-false (goesOn (loaded o rd (sum (registerOf x rs1) imm) (sum pc len) m f))) stays
+executes (Load o rd rs1 imm) len pc x m f = no-store f (goesOn (loaded o rd (sum (registerOf x rs1) imm) (sum pc len) m f))
 executes (Lui rd field) len pc x m f = stays
 executes (Auipc rd field) len pc x m f = stays
 executes (Jal rd imm) len pc x m f = stays

@@ -4,16 +4,19 @@
 use mathlib.Core.Path.{_≡_, refl, _∙_}
 use mathlib.Core.Bool.{Bool, true, false, cond, _&&_, and-eq-true-iff}
 use mathlib.Core.List.{List}
+use mathlib.Core.Logic.{⊎-elim}
 use Prim.Native.Nat.{ℕ, zero, suc, _+_, _-_, _*_, _%_, _^_, _<_, _≤_}
 use native.Mathlib.Omega.{arith}
 use lib.ListN.{length, length-set}
 use lib.Dec.{eqb, ltb, leb}
 use borrow.Author.Tests.{eqb-true, ltb-true, eq-eqb, le-leb, leb-true}
+use Rattle.answers.proofs.Numbers.{stop-numbered}
 use Rattle.word.proofs.Bools.{either}
+use Rattle.word.proofs.Scatter.{low-lt}
 use Rattle.word.proofs.Signs.{signed-lt}
 use Rattle.answers.specs.declared.Stop.{Stop}
 use Rattle.answers.specs.declared.Stop.the-variants as S
-use Rattle.answers.specs.Stops.{stopNumber}
+use Rattle.answers.specs.Stops.{stopNumber, lastStop}
 use Rattle.answers.proofs.Checks.{passed}
 use Rattle.answers.specs.declared.Check.the-variants.{Passed}
 use Rattle.answers.specs.declared.Refusal.the-variants as R
@@ -22,16 +25,9 @@ use Rattle.isa.specs.declared.LoadOp.{LoadOp}
 use Rattle.isa.specs.declared.StoreOp.{StoreOp}
 use Rattle.isa.specs.declared.Inst.{Inst}
 use Rattle.isa.specs.declared.Inst.the-variants.{Lui, Auipc, Jal, Jalr, Branch, Load, Store, Imm, Shift, Arith, Fence, Ecall, Ebreak, MulDiv}
-use Rattle.isa.specs.declared.Decoded.{Decoded}
-use Rattle.isa.specs.declared.Decoded.the-variants.{Legal, Illegal}
-use Rattle.isa.specs.Decoding.{decoded}
 use Rattle.isa.specs.Encoding.{regOk, signedOk, inRange}
-use Rattle.isa.specs.Rvc.{expanded}
 use Rattle.isa.specs.Registers.{x0}
-use Rattle.roundtrip.proofs.Words.{decoded-in-range}
-use Rattle.shortest.proofs.Shortest.{expanded-in-range}
-use Rattle.octets.specs.Bytes.{load}
-use Rattle.octets.specs.Widths.{bytes}
+use Rattle.octets.specs.Widths.{widthBytes}
 use Rattle.octets.proofs.Bytes.{length-store}
 use Rattle.place.specs.Map.{placed}
 use Rattle.place.specs.declared.Place.{Place}
@@ -41,19 +37,23 @@ use Rattle.part.specs.Row.{markAt, allKeep, burnt}
 use Rattle.alu.specs.Arithmetic.{sum, takes}
 use Rattle.state.specs.declared.State.{State}
 use Rattle.state.specs.States.{registerOf, registerSet, halted, wellFormed}
-use Rattle.state.specs.Sizes.{AllBelow, Fits}
+use Rattle.word.specs.Bounds.{AllBelow}
+use Rattle.state.specs.Sizes.{Fits}
 use Rattle.access.specs.declared.Effect.{Effect}
 use Rattle.access.specs.declared.Effect.the-variants.{Next, Halt}
 use Rattle.access.specs.Accesses.{Done, done, loadWidth, loadedFrom, storeWidth, storedTo}
 use Rattle.execute.specs.Execution.{evened, effectOf}
 use Rattle.fetch.specs.declared.Fetched.{Fetched}
 use Rattle.fetch.specs.declared.Fetched.the-variants.{Instruction, Fails}
-use Rattle.fetch.specs.Fetching.{legal, fetchedWith, fetched}
-use Rattle.machine.specs.Steps.{World, effectFetched, effectAt, next, applied, after, paused, stepped, ran}
+use Rattle.fetch.specs.Fetching.{fetched}
+use Rattle.fetch.proofs.Laws.{fetched-real}
+use Rattle.engine.specs.Steps.{World, effectFetched, effectAt, next, applied, after, paused, stepped, ran}
+use Rattle.boards.specs.Boards.{longestMemory}
 use Rattle.machine.specs.Entries.{checked}
 use Rattle.promises.specs.Burning.{Row}
 use Rattle.promises.specs.Cuts.{Sized}
-use Rattle.promises.proofs.Bounds.{word-lt, register-lt, register-below, load-lt, store-below, burnt-below, arith-lt, imm-lt, shift-lt, muldiv-lt, extended-lt}
+use Rattle.octets.proofs.Bytes.{all-bytes, load-lt}
+use Rattle.promises.proofs.Bounds.{register-lt, register-below, store-below, burnt-below, arith-lt, imm-lt, shift-lt, muldiv-lt, extended-lt}
 use Rattle.promises.proofs.Fuses.{row-burnt}
 
 -- ---- what is kept
@@ -62,7 +62,7 @@ use Rattle.promises.proofs.Fuses.{row-burnt}
 pub record Good (w : World) : Type 0 where
   pub state-fits : Fits (w .st)
   pub formed : wellFormed (w .st) ≡ true
-  pub mem-short : length (w .mem) ≤ 65536
+  pub mem-short : length (w .mem) ≤ longestMemory
   pub mem-bytes : AllBelow (2 ^ 8) (w .mem)
   pub row-bytes : AllBelow (2 ^ 8) (w .row)
   pub row-sound : Row (w .row)
@@ -70,11 +70,11 @@ pub record Good (w : World) : Type 0 where
 -- it is what the entries ask, with what the types say
 pub good-passes : (w : World) → Good w → checked w ≡ Passed
 good-passes w g =
-    rw (le-leb (length (w .mem)) 65536 (g .mem-short), eq-eqb (length (w .row)) 512 (g .row-sound .0), g .row-sound .1, g .formed)
+    rw (le-leb (length (w .mem)) longestMemory (g .mem-short), eq-eqb (length (w .row)) 512 (g .row-sound .0), g .row-sound .1, g .formed)
 
 pub passes-good : (w : World) → Sized w → checked w ≡ Passed → Good w
 passes-good w z e =
-    let m = passed (leb (length (w .mem)) 65536) R.MemoryTooLong _ e in
+    let m = passed (leb (length (w .mem)) longestMemory) R.MemoryTooLong _ e in
     let l = passed (eqb (length (w .row)) 512) R.RowLength _ (m .1) in
     let r = passed (allKeep 64 (w .row)) R.RowRecord _ (l .1) in
     let s = passed (wellFormed (w .st)) R.State Passed (r .1) in
@@ -92,13 +92,13 @@ second : (a b : Bool) → (a && b) ≡ true → b ≡ true
 second a b e = and-eq-true-iff a b .0 e .1
 
 formed-even : (s : State) → wellFormed s ≡ true → s .pc % 2 ≡ 0
-formed-even s h = eqb-true _ _ (and-eq-true-iff _ (leb (s .stop) 10) .0 h .0)
+formed-even s h = eqb-true _ _ (and-eq-true-iff _ (leb (s .stop) lastStop) .0 h .0)
 
-formed-stop : (s : State) → wellFormed s ≡ true → s .stop ≤ 10
+formed-stop : (s : State) → wellFormed s ≡ true → s .stop ≤ lastStop
 formed-stop s h = leb-true _ _ (second (eqb (s .pc % 2) 0) _ h)
 
-is-formed : (pc stop : ℕ) → pc % 2 ≡ 0 → stop ≤ 10 → (eqb (pc % 2) 0 && leb stop 10) ≡ true
-is-formed pc stop e l = rw (eq-eqb (pc % 2) 0 e, le-leb stop 10 l)
+is-formed : (pc stop : ℕ) → pc % 2 ≡ 0 → stop ≤ lastStop → (eqb (pc % 2) 0 && leb stop lastStop) ≡ true
+is-formed pc stop e l = rw (eq-eqb (pc % 2) 0 e, le-leb stop lastStop l)
 
 -- ---- addresses
 
@@ -107,10 +107,10 @@ abbrev Address : ℕ → Type 0
 Address pc = (pc < 2 ^ 32) × (pc % 2 ≡ 0)
 
 even-sum : (a b : ℕ) → a % 2 ≡ 0 → b % 2 ≡ 0 → Address (sum a b)
-even-sum a b h k = (word-lt (a + b), omega arith)
+even-sum a b h k = (low-lt (a + b) 32, omega arith)
 
 evened-sum : (a b : ℕ) → Address (evened (sum a b))
-evened-sum a b = let l = word-lt (a + b) in (omega arith, omega arith)
+evened-sum a b = let l = low-lt (a + b) 32 in (omega arith, omega arith)
 
 -- ---- what an instruction comes to
 
@@ -136,18 +136,18 @@ module _ (w : World) (g : Good w) where
 
   load-fits : (p : Place) (o : LoadOp) (rd : Reg) (pc : ℕ) → Address pc → EffectFits (loadedFrom p o rd pc (w .mem) (w .row))
   unfolding loadedFrom
-  load-fits (Memory i) o rd pc a = (extended-lt o _ (load-lt (bytes (loadWidth o)) i (w .mem) (g .mem-bytes)), a)
+  load-fits (Memory i) o rd pc a = (extended-lt o _ (load-lt (widthBytes (loadWidth o)) i (w .mem) (g .mem-bytes)), a)
   load-fits (Fuse k) o rd pc a = (load-lt 4 (8 * k) (w .row) (g .row-bytes), a)
   load-fits Misaligned o rd pc a = tt
   load-fits Outside o rd pc a = tt
 
-  store-fine : (p : Place) (o : StoreOp) (v pc : ℕ) → ((i : ℕ) → p ≡ Memory i → i + bytes (storeWidth o) ≤ length (w .mem)) → ((k : ℕ) → p ≡ Fuse k → k < 64)
+  store-fine : (p : Place) (o : StoreOp) (v pc : ℕ) → ((i : ℕ) → p ≡ Memory i → i + widthBytes (storeWidth o) ≤ length (w .mem)) → ((k : ℕ) → p ≡ Fuse k → k < 64)
       → Address pc → Fine (w .mem) (storedTo p o v pc (w .mem) (w .row))
   unfolding storedTo
   store-fine (Memory i) o v pc inside window a = record {
     effect-fits = (omega arith, a);
-    mem-length = length-store (bytes (storeWidth o)) i v (w .mem) (inside i refl);
-    mem-bytes = store-below (bytes (storeWidth o)) i v (w .mem) (g .mem-bytes);
+    mem-length = length-store (widthBytes (storeWidth o)) i v (w .mem) (inside i refl);
+    mem-bytes = store-below (widthBytes (storeWidth o)) i v (w .mem) (g .mem-bytes);
     row-bytes = g .row-bytes;
     row-sound = g .row-sound;
   }
@@ -170,17 +170,17 @@ module _ (w : World) (g : Good w) where
   -- an instruction that has a word, of an even length
   effect-fine : (i : Inst) (len : ℕ) → inRange i ≡ true → len % 2 ≡ 0 → Fine (w .mem) (effectOf i len (w .st .pc) (w .st .x) (w .mem) (w .row))
   unfolding effectOf inRange
-  effect-fine (Lui rd field) len h l = leaves _ (word-lt _, aside len l)
-  effect-fine (Auipc rd field) len h l = leaves _ (word-lt _, aside len l)
-  effect-fine (Jal rd imm) len h l = leaves _ (word-lt _, aside imm (eqb-true (imm % 2) 0 (second (signedOk 21 imm) _ (second (regOk rd) _ h))))
-  effect-fine (Jalr rd rs1 imm) len h l = leaves _ (word-lt _, evened-sum (registerOf (w .st .x) rs1) imm)
+  effect-fine (Lui rd field) len h l = leaves _ (low-lt _ 32, aside len l)
+  effect-fine (Auipc rd field) len h l = leaves _ (low-lt _ 32, aside len l)
+  effect-fine (Jal rd imm) len h l = leaves _ (low-lt _ 32, aside imm (eqb-true (imm % 2) 0 (second (signedOk 21 imm) _ (second (regOk rd) _ h))))
+  effect-fine (Jalr rd rs1 imm) len h l = leaves _ (low-lt _ 32, evened-sum (registerOf (w .st .x) rs1) imm)
   effect-fine (Branch o rs1 rs2 imm) len h l =
       let even : imm % 2 ≡ 0 = eqb-true (imm % 2) 0 (second (signedOk 13 imm) _ (second (regOk rs2) _ (second (regOk rs1) _ h))) in
       leaves _ (omega arith, either Address (takes o (registerOf (w .st .x) rs1) (registerOf (w .st .x) rs2)) _ _ (aside imm even) (aside len l))
   effect-fine (Load o rd rs1 imm) len h l =
-      leaves _ (load-fits (placed (bytes (loadWidth o)) (sum (registerOf (w .st .x) rs1) imm) (length (w .mem))) o rd _ (aside len l))
+      leaves _ (load-fits (placed (widthBytes (loadWidth o)) (sum (registerOf (w .st .x) rs1) imm) (length (w .mem))) o rd _ (aside len l))
   effect-fine (Store o rs1 rs2 imm) len h l =
-      let n : ℕ = bytes (storeWidth o) in
+      let n : ℕ = widthBytes (storeWidth o) in
       let a : ℕ = sum (registerOf (w .st .x) rs1) imm in
       let size : ℕ = length (w .mem) in
       store-fine (placed n a size) o (registerOf (w .st .x) rs2) _ (λ i q. placed-memory n a size i q .1) (placed-fuse n a size) (aside len l)
@@ -195,41 +195,10 @@ module _ (w : World) (g : Good w) where
   effect-fine Ebreak len h l = leaves (Halt S.Ebreak) tt
   effect-fine (MulDiv o rd rs1 rs2) len h l = leaves _ (muldiv-lt o _ _ (read-lt rs1) (read-lt rs2), aside len l)
 
--- ---- what is fetched
-
--- it has a word, and an even length
-abbrev Real : Fetched → Type 0
-Real (Instruction i len) = (inRange i ≡ true) × (len % 2 ≡ 0)
-Real (Fails why) = Unit {0}
-
-legal-real : (d : Decoded) (len : ℕ) → ((i : Inst) → d ≡ Legal i → inRange i ≡ true) → len % 2 ≡ 0 → Real (legal d len)
-legal-real (Legal i) len h e = (h i refl, e)
-legal-real Illegal len h e = tt
-
-fetched-real : (pc : ℕ) (m : List ℕ) → AllBelow (2 ^ 8) m → Real (fetched pc m)
-unfolding fetched fetchedWith
-fetched-real pc m h =
-    let long = legal-real (decoded (load 4 pc m)) 4 (λ i. decoded-in-range (load 4 pc m) i (load-lt 4 pc m h)) refl in
-    let short = legal-real (expanded (load 2 pc m)) 2 (λ i. expanded-in-range (load 2 pc m) i (load-lt 2 pc m h)) refl in
-    either Real (leb (pc + 2) (length m)) _ _
-    (either Real (eqb (load 2 pc m % 32) 31) _ _ tt
-    (either Real (eqb (load 2 pc m % 4) 3) _ _ (either Real (leb (pc + 4) (length m)) _ _ long tt) short))
-    tt
-
 -- ---- the state after it
 
-stop-le : (why : Stop) → stopNumber why ≤ 10
-stop-le S.Paused = omega arith
-stop-le S.Ecall = omega arith
-stop-le S.Ebreak = omega arith
-stop-le S.IllegalInstruction = omega arith
-stop-le S.FetchOutside = omega arith
-stop-le S.LoadMisaligned = omega arith
-stop-le S.LoadOutside = omega arith
-stop-le S.StoreMisaligned = omega arith
-stop-le S.StoreOutside = omega arith
-stop-le S.AlreadyBurnt = omega arith
-stop-le S.CountFull = omega arith
+pub stop-le : (why : Stop) → stopNumber why ≤ lastStop
+stop-le why = stop-numbered why .2
 
 length-register : (r : Reg) (v : ℕ) (x : List ℕ) → length (registerSet r v x) ≡ length x
 length-register r v x = either (λ y. length y ≡ length x) (eqb (r .number) 0) _ _ refl (length-set x (r .number - 1) v)
@@ -275,10 +244,13 @@ module _ (w : World) (g : Good w) where
     row-sound = h .row-sound;
   }
 
-  fetched-fine : (t : Fetched) → Real t → Fine (w .mem) (effectFetched t (w .st .pc) (w .st .x) (w .mem) (w .row))
+  -- an instruction fetched is in range, of an even length
+  fetched-fine : (t : Fetched) → fetched (w .st .pc) (w .mem) ≡ t → Fine (w .mem) (effectFetched t (w .st .pc) (w .st .x) (w .mem) (w .row))
   unfolding effectFetched
-  fetched-fine (Instruction i len) r = effect-fine w g i len (r .0) (r .1)
-  fetched-fine (Fails why) r = leaves w g (Halt why) tt
+  fetched-fine (Instruction i len) e =
+      let r = fetched-real (w .st .pc) (w .mem) (all-bytes (w .mem) (g .mem-bytes)) e in
+      effect-fine w g i len (r .in-range) (⊎-elim (λ k. omega arith) (λ k. omega arith) (r .size))
+  fetched-fine (Fails why) e = leaves w g (Halt why) tt
 
   -- the count has room where an instruction is done
   good-step : Good (stepped w)
@@ -293,7 +265,7 @@ module _ (w : World) (g : Good w) where
 
       go : (b : Bool) → ltb (w .st .count) (2 ^ 64 - 1) ≡ b → Good (after (cond b reached full) (w .st))
       go true e =
-          let h : Fine (w .mem) reached = fetched-fine (fetched (w .st .pc) (w .mem)) (fetched-real (w .st .pc) (w .mem) (g .mem-bytes)) in
+          let h : Fine (w .mem) reached = fetched-fine (fetched (w .st .pc) (w .mem)) refl in
           good-after reached h (applied-fits (reached .effect) (w .st) (h .effect-fits) (g .state-fits) (g .formed) (ltb-true _ _ e))
       go false e = good-after full (leaves w g (Halt S.CountFull) tt) (halted-fits S.CountFull (w .st) (g .state-fits) (g .formed))
 

@@ -1,5 +1,3 @@
-pub mod Readings
-pub mod Instructions
 pub mod Refusals
 pub mod Steps
 pub mod Fuses
@@ -7,5 +5,5 @@ pub mod Bounds
 pub mod Invariants
 pub mod Cuts
 pub mod Burning
-pub mod Text
-pub mod Cards
+pub mod Determined
+pub mod Divisions

@@ -1,56 +1,36 @@
--- Each entry answers by its chain of tests, and a test that fails is its row of the table; so a chain of tests is refused as the chain of its rows says. Assumes nothing.
+-- Each entry answers by its chain of tests, and a test that fails is its row of the table; so a chain of tests is refused as the chain of its rows says. A refused answer is made of the refusal alone, which its number tells. Assumes nothing.
 use mathlib.Core.Path.{_≡_, refl, sym, ap, _∙_}
 use mathlib.Core.Bool.{Bool, true, false, _&&_}
 use mathlib.Core.Logic.{_↔_, _⊎_, inl, inr, ⊎-elim}
 use mathlib.Core.List.{List}
-use Prim.Native.Nat.{ℕ, zero, suc, _%_, _/_, _<_}
+use Prim.Native.Nat.{ℕ, _%_, _/_}
 use native.Mathlib.Omega.{arith}
 use lib.ListN.{length}
 use lib.Dec.{eqb, ltb, leb}
 use borrow.Author.Tests.{leb-false, lt-leb, ltb-false, le-ltb, eqb-false, ne-eqb}
-use Rattle.answers.specs.Answer.{Answer, refusedWith}
-use Rattle.answers.specs.Checks.{unless, ofCheck}
-use Rattle.answers.specs.Refusals.{numberOf}
+use Rattle.answers.specs.Stops.{lastStop}
+use Rattle.answers.specs.Answer.{Answer}
+use Rattle.answers.specs.Checks.{ofCheck}
+use Rattle.answers.specs.Order.{refusal, noRefusal}
+use Rattle.answers.proofs.Order.{Says, passes, then, exactly, all-pass, refused-is, refused-alike}
 use Rattle.answers.specs.declared.Refusal.{Refusal}
 use Rattle.answers.specs.declared.Refusal.the-variants as R
 use Rattle.answers.specs.declared.Check.{Check}
 use Rattle.answers.specs.declared.Check.the-variants.{Passed, Refused}
 use Rattle.octets.specs.Bytes.{load}
-use Rattle.part.specs.Row.{keepsRules, allKeep}
-use Rattle.part.proofs.Rows.{one-breaks}
+use Rattle.part.specs.Row.{allKeep}
+use Rattle.part.proofs.Rows.{one-breaks, some-breaks}
 use Rattle.state.specs.declared.State.{State}
-use Rattle.state.specs.States.{wellFormed}
-use Rattle.machine.specs.Steps.{World, stepped, ran, retired}
-use Rattle.machine.specs.Entries.{boardChecked, stateChecked, checked, stepDecided, ofStepped, runDecided, ofRan}
+use Rattle.state.specs.States.{wellFormed, stateChecked}
+use Rattle.engine.specs.Steps.{World, stepped, ran, retired}
+use Rattle.boards.specs.Boards.{boardChecked, longestMemory}
+use Rattle.machine.specs.Entries.{checked, stepDecided, ofStepped, runDecided, ofRan}
 use Rattle.records.specs.Records.{stateOf, recordSound}
-use Rattle.slots.specs.Slots.{slotThere, slotAt, slotWorld, writeChecked, readChecked, resumeChecked, writeDecided, ofWritten, readDecided, ofReadBack, resumeDecided, ofResumed}
-use Rattle.promises.specs.Refusals.{NoSlot, Malformed, RecordBreaks, row, end, boardRows, machineRows, writeRows, readRows, StepRefuses, RunRefuses, WriteRefuses, ReadRefuses, ResumeRefuses, StepKeeps, RunKeeps, WriteKeeps, ResumeKeeps}
+use Rattle.slots.specs.Slots.{slotThere, slotAt, writeChecked, readChecked, writeDecided, ofWrite, readDecided, ofReadBack}
+use Rattle.resume.specs.Resuming.{slotWorld, resumeChecked, resumeDecided, ofResumed}
+use Rattle.promises.specs.Refusals.{NoSlot, Malformed, RecordBreaks, boardRows, machineRows, writeRows, readRows, StepRefuses, RunRefuses, WriteRefuses, ReadRefuses, ResumeRefuses, StepKeeps, RunKeeps, WriteKeeps, ResumeKeeps, Silent, NoOtherFact}
 use Rattle.promises.specs.Steps.{Accepted}
-use Rattle.promises.proofs.Readings.{apart, number}
-
--- ---- a chain of tests, and the rows that say the same
-
-abbrev pub Refuses : Check → ℕ → Type 0
-Refuses Passed n = ⊥
-Refuses (Refused r) n = n ≡ numberOf r
-
-abbrev pub Says : Check → (ℕ → Type 0) → Type 0
-Says c rows = (n : ℕ) → Refuses c n ↔ rows n
-
-same : {A : Type 0} → A ↔ A
-same = (λ e. e, λ e. e)
-
-pub passes : Says Passed end
-passes n = same
-
--- a test before the others is a row before theirs
-pub then : (b : Bool) (r : Refusal) (rest : Check) {Holds : Type 0} {later : ℕ → Type 0} → (b ≡ false) ↔ Holds → Says rest later
-    → Says (unless b r rest) (row (numberOf r) Holds later)
-then true r rest p q n = (
-  λ e. inr (λ h. let z = p .1 h in let y : _≡_ {A = ℕ} 0 1 = cc in omega arith, q n .0 e),
-  λ s. ⊎-elim (λ h. let z = p .1 (h .0) in let y : _≡_ {A = ℕ} 0 1 = cc in absurd (omega arith)) (λ h. q n .1 (h .1)) s,
-)
-then false r rest p q n = (λ e. inl (p .0 refl, e), λ s. ⊎-elim (λ h. h .1) (λ h. absurd (h .0 (p .0 refl))) s)
+use Rattle.promises.specs.Cuts.{SlotAccepted}
 
 -- ---- the tests that fail
 
@@ -58,21 +38,12 @@ and-fails : (a b : Bool) {P Q : Type 0} → (a ≡ false) ↔ P → (b ≡ false
 and-fails true b p q = (λ e. inr (q .0 e), λ s. ⊎-elim (λ h. let z = p .1 h in cc) (λ h. q .1 h) s)
 and-fails false b p q = (λ e. inl (p .0 refl), λ s. refl)
 
-some-breaks : (n : ℕ) (f : List ℕ) → allKeep n f ≡ false → (k : ℕ) × (k < n) × (keepsRules k f ≡ false)
-unfolding allKeep
-some-breaks zero f e = let z : _≡_ {A = ℕ} 0 1 = cc in absurd (omega arith)
-some-breaks (suc n) f e =
-    ⊎-elim
-    (λ h. let s = some-breaks n f h in (s .0, omega arith, s .2))
-    (λ h. (n, omega arith, h))
-    (and-fails (allKeep n f) (keepsRules n f) same same .0 e)
-
 record-breaks : (f : List ℕ) → (allKeep 64 f ≡ false) ↔ RecordBreaks f
 record-breaks f = (some-breaks 64 f, λ s. one-breaks 64 (s .0) f (s .1) (s .2))
 
 malformed : (s : State) → (wellFormed s ≡ false) ↔ Malformed s
 malformed s =
-    and-fails (eqb (s .pc % 2) 0) (leb (s .stop) 10)
+    and-fails (eqb (s .pc % 2) 0) (leb (s .stop) lastStop)
     (λ e. omega (arith, eqb-false (s .pc % 2) 0 e), λ h. ne-eqb (s .pc % 2) 0 (λ z. omega arith))
     (leb-false _ _, lt-leb _ _)
 
@@ -83,11 +54,11 @@ no-slot k slots = and-fails (eqb (length slots % 144) 0) (ltb k (length slots / 
 
 board-says : (m f : List ℕ) (rest : Check) {later : ℕ → Type 0} → Says rest later → Says (boardChecked m f rest) (boardRows m f later)
 board-says m f rest q =
-    then (leb (length m) 65536) R.MemoryTooLong _ (leb-false _ _, lt-leb _ _)
+    then (leb (length m) longestMemory) R.MemoryTooLong _ (leb-false _ _, lt-leb _ _)
     (then (eqb (length f) 512) R.RowLength _ (eqb-false _ _, ne-eqb _ _)
     (then (allKeep 64 f) R.RowRecord rest (record-breaks f) q))
 
-state-says : (s : State) → Says (stateChecked s) (row 5 (Malformed s) end)
+state-says : (s : State) → Says (stateChecked s) (refusal 5 (Malformed s) noRefusal)
 state-says s = then (wellFormed s) R.State Passed (malformed s) passes
 
 machine-says : (w : World) → Says (checked w) (machineRows w)
@@ -105,18 +76,12 @@ read-says k slots =
 -- ---- no row holds exactly if every test passes
 
 pub accepted-passes : (w : World) → Accepted w → checked w ≡ Passed
-accepted-passes w a = go (checked w) (λ n e. a n (machine-says w n .0 e))
-  where
-    go : (c : Check) → ((n : ℕ) → Refuses c n → ⊥) → c ≡ Passed
-    go Passed f = refl
-    go (Refused r) f = absurd (f (numberOf r) refl)
+accepted-passes w a = all-pass (checked w) (machine-says w) a
+
+pub slot-accepted-passes : (k : ℕ) (m f slots : List ℕ) → SlotAccepted k m f slots → resumeChecked k m f slots ≡ Passed
+slot-accepted-passes k m f slots a = all-pass (resumeChecked k m f slots) (board-says m f (readChecked k slots) (read-says k slots)) a
 
 -- ---- the answers
-
-pub exactly : {A : Type 0} {x : Answer A} {rows : ℕ → Type 0} (c : Check) (a : A) → x ≡ ofCheck c a → Says c rows
-    → (n : ℕ) → (x ≡ refusedWith n) ↔ rows n
-exactly Passed a e q n = (λ t. absurd (apart (sym e ∙ t)), λ t. absurd (q n .1 t))
-exactly (Refused r) a e q n = (λ t. q n .0 (number (sym t ∙ e)), λ t. e ∙ ap refusedWith (sym (q n .1 t)))
 
 -- what an entry answers goes by its check
 step-answer : (c : Check) (w : World) → ofStepped (stepDecided c w .answer) ≡ ofCheck c (stepped w .st)
@@ -129,7 +94,7 @@ unfolding runDecided
 run-answer Passed b w = refl
 run-answer (Refused r) b w = refl
 
-write-answer : (c : Check) (k : ℕ) (s : State) (slots : List ℕ) → ofWritten (writeDecided c k s slots) ≡ ofCheck c tt
+write-answer : (c : Check) (k : ℕ) (s : State) (slots : List ℕ) → ofWrite (writeDecided c k s slots) ≡ ofCheck c tt
 unfolding writeDecided
 write-answer Passed k s slots = refl
 write-answer (Refused r) k s slots = refl
@@ -166,10 +131,6 @@ resume-refuses b k m f slots =
 
 -- ---- every lent byte kept: a refused call leaves what was lent
 
-refused-is : {A : Type 0} {x : Answer A} (c : Check) (a : A) (n : ℕ) → x ≡ ofCheck c a → x ≡ refusedWith n → (r : Refusal) × (c ≡ Refused r)
-refused-is Passed a n e t = absurd (apart (sym e ∙ t))
-refused-is (Refused r) a n e t = (r, refl)
-
 pub step-keeps : StepKeeps
 unfolding stepDecided
 step-keeps w n e = rw (refused-is (checked w) _ n (step-answer (checked w) w) e .1, stepDecided) (refl, refl)
@@ -186,3 +147,24 @@ pub resume-keeps : ResumeKeeps
 unfolding resumeDecided
 resume-keeps b k m f slots n e =
     rw (refused-is (resumeChecked k m f slots) _ n (resume-answer (resumeChecked k m f slots) b k m f slots) e .1, resumeDecided) (refl, refl, refl)
+
+-- ---- no other fact
+
+-- an entry whose answer goes by its check, and of a refusal alone where it is refused
+silent : {I A B : Type 0} (read : A → Answer B) (decided : Check → I → A) (test : I → Check) (value : I → B)
+    → ((c : Check) (i : I) → read (decided c i) ≡ ofCheck c (value i)) → ((r : Refusal) (i j : I) → decided (Refused r) i ≡ decided (Refused r) j)
+    → Silent read (λ i. decided (test i) i)
+silent read decided test value answers alone i j n s t =
+    let p = refused-alike (test i) (test j) (value i) (value j) n (answers (test i) i) (answers (test j) j) s t in
+    ap (λ c. decided c i) (p .1) ∙ alone (p .0) i j ∙ ap (λ c. decided c j) (sym (p .2))
+
+pub no-other-fact : NoOtherFact
+unfolding stepDecided runDecided writeDecided readDecided resumeDecided
+no-other-fact = (
+  silent ofStepped (λ c w. stepDecided c w .answer) checked (λ w. stepped w .st) step-answer (λ r w v. refl),
+  silent ofRan (λ c i. runDecided c (i .0) (i .1) .answer) (λ i. checked (i .1)) _ (λ c i. run-answer c (i .0) (i .1)) (λ r i j. refl),
+  silent (λ c. ofCheck c tt) (λ c i. writeDecided c (i .0) (i .1) (i .2) .check) (λ i. writeChecked (i .0) (i .1) (i .2)) _ (λ c i. write-answer c (i .0) (i .1) (i .2)) (λ r i j. refl),
+  silent ofReadBack (λ c i. readDecided c (i .0) (i .1)) (λ i. readChecked (i .0) (i .1)) _ (λ c i. read-answer c (i .0) (i .1)) (λ r i j. refl),
+  silent ofResumed (λ c i. resumeDecided c (i .0) (i .1) (i .2) (i .3) (i .4) .answer) (λ i. resumeChecked (i .1) (i .2) (i .3) (i .4)) _
+      (λ c i. resume-answer c (i .0) (i .1) (i .2) (i .3) (i .4)) (λ r i j. refl),
+)

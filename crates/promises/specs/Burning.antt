@@ -10,7 +10,7 @@ use Rattle.answers.specs.declared.Check.{Check}
 use Rattle.answers.specs.declared.Check.the-variants.{Passed, Refused}
 use Rattle.isa.specs.declared.Inst.{Inst}
 use Rattle.isa.specs.declared.Inst.the-variants.{Lui, Auipc, Jal, Jalr, Branch, Load, Store, Imm, Shift, Arith, Fence, Ecall, Ebreak, MulDiv}
-use Rattle.octets.specs.Widths.{bytes}
+use Rattle.octets.specs.Widths.{widthBytes}
 use Rattle.place.specs.Map.{placed}
 use Rattle.place.specs.declared.Place.{Place}
 use Rattle.place.specs.declared.Place.the-variants.{Memory, Fuse, Misaligned, Outside}
@@ -22,7 +22,7 @@ use Rattle.access.specs.Accesses.{storeWidth}
 use Rattle.fetch.specs.declared.Fetched.{Fetched}
 use Rattle.fetch.specs.declared.Fetched.the-variants.{Instruction, Fails}
 use Rattle.fetch.specs.Fetching.{fetched}
-use Rattle.machine.specs.Steps.{World, world, completes, stepped, ran}
+use Rattle.engine.specs.Steps.{World, world, completes, stepped, ran}
 use Rattle.machine.specs.Entries.{checked, runEntry}
 
 -- ---- stores completed into the row, counted on the steps
@@ -35,7 +35,7 @@ inWindow Outside = false
 
 -- the instruction is a store, and its access lies in the fuse window; size is that of the memory
 abbrev pub storesThere : Inst → List ℕ → ℕ → Bool
-storesThere (Store o rs1 rs2 imm) x size = inWindow (placed (bytes (storeWidth o)) (sum (registerOf x rs1) imm) size)
+storesThere (Store o rs1 rs2 imm) x size = inWindow (placed (widthBytes (storeWidth o)) (sum (registerOf x rs1) imm) size)
 storesThere (Lui rd field) x size = false
 storesThere (Auipc rd field) x size = false
 storesThere (Jal rd imm) x size = false
@@ -59,14 +59,15 @@ abbrev pub burns : World → Bool
 burns w = completes w && fetchedStores (fetched (w .st .pc) (w .mem)) (w .st .x) (length (w .mem))
 
 -- how many of the next n steps do
-unfoldable pub stores : ℕ → World → ℕ
-stores zero w = 0
-stores (suc n) w = flag (burns w) + stores n (stepped w)
+unfoldable pub storesIn : ℕ → World → ℕ
+storesIn zero w = 0
+storesIn (suc n) w = flag (burns w) + storesIn n (stepped w)
 
--- at how many of the next n steps word k turns from blank to burnt
+-- word k turns from blank to burnt in the next step
 abbrev pub turns : ℕ → World → Bool
 turns k w = eqb (markAt k (w .row)) 0 && eqb (markAt k (stepped w .row)) 1
 
+-- at how many of the next n steps it does
 unfoldable pub turnsIn : ℕ → ℕ → World → ℕ
 turnsIn k zero w = 0
 turnsIn k (suc n) w = flag (turns k w) + turnsIn k n (stepped w)
@@ -94,7 +95,7 @@ ifRun (Refused r) n = 0
 
 unfoldable pub storesOver : List Start → List ℕ → ℕ
 storesOver [] f = 0
-storesOver (e ∷ es) f = ifRun (checked (begun e f)) (stores (e .budget) (begun e f)) + storesOver es (runEntry (e .budget) (begun e f) .row)
+storesOver (e ∷ es) f = ifRun (checked (begun e f)) (storesIn (e .budget) (begun e f)) + storesOver es (runEntry (e .budget) (begun e f) .row)
 
 unfoldable pub turnsOver : ℕ → List Start → List ℕ → ℕ
 turnsOver k [] f = 0

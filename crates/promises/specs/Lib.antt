@@ -1,7 +1,6 @@
-pub mod Instructions
 pub mod Refusals
 pub mod Steps
 pub mod Cuts
 pub mod Burning
-pub mod Text
-pub mod Cards
+pub mod Determined
+pub mod Divisions

@@ -1,17 +1,21 @@
--- Demand 2: each step of the code is the manual's step, and a 16-bit instruction acts as the 32-bit one it stands for, but for its length; and the paper's rules of a run.
+-- Demand 2: each step of the code is the manual's step, and a 16-bit instruction acts as the 32-bit one it stands for, but for its length; and the paper's rules of a step and of a run.
 -- Each statement is proved in proofs/Steps.antt.
 use mathlib.Core.Path.{_≡_}
 use mathlib.Core.Bool.{true, false}
+use mathlib.Core.Logic.{_↔_}
 use mathlib.Core.List.{List}
 use Prim.Native.Nat.{ℕ, _+_, _≤_}
 use lib.ListN.{length}
+use Rattle.answers.specs.Stops.{lastStop}
 use Rattle.answers.specs.Answer.{given}
 use Rattle.isa.specs.declared.Inst.{Inst}
 use Rattle.octets.specs.Bytes.{load}
+use Rattle.alu.specs.Arithmetic.{sum}
+use Rattle.state.specs.States.{state}
 use Rattle.execute.specs.Execution.{effectOf}
-use Rattle.machine.specs.Steps.{World, effectAt, paused, stepped, ran, retired}
+use Rattle.engine.specs.Steps.{World, world, effectAt, paused, stepped, completes, ran, retired}
 use Rattle.machine.specs.Entries.{stepEntry, ofStepped, runEntry, ofRan}
-use Rattle.promises.specs.Instructions.{encodes, expands}
+use Rattle.promises_codes.specs.Instructions.{encodes, expands}
 use Rattle.promises.specs.Refusals.{machineRows}
 
 -- no row of the table holds
@@ -38,9 +42,28 @@ ShortActsAsLong =
     → pc + 4 ≤ length m4 → encodes i ≡ given (load 4 pc m4)
     → (effectAt pc x m2 f ≡ effectOf i 2 pc x m2 f) × (effectAt pc x m4 f ≡ effectOf i 4 pc x m4 f)
 
--- ---- the rules of a run
+-- but for its length: the length of an instruction enters only in pc plus the length
+abbrev pub LengthOnly : Type 0
+LengthOnly = (i : Inst) (a b pc : ℕ) (x m f : List ℕ) → sum pc a ≡ sum pc b → effectOf i a pc x m f ≡ effectOf i b pc x m f
 
--- it retires at most the budget, and the count grows by the number retired
+-- ---- the rules of a step and of a run
+
+-- a step that stops changes only the stop number; pc stays on that instruction and nothing is counted
+abbrev pub StopsCleanly : Type 0
+StopsCleanly =
+    (w : World) → paused w ≡ true → completes w ≡ false
+    → (n : ℕ) × (1 ≤ n) × (n ≤ lastStop) × (stepped w ≡ world (state (w .st .pc) (w .st .x) (w .st .count) n) (w .mem) (w .row))
+
+-- a step is a run of budget 1, refused or not: check, state, memory and row
+abbrev pub StepIsRun : Type 0
+StepIsRun =
+    (w : World)
+    → (stepEntry w .answer .check ≡ runEntry 1 w .answer .check)
+    × (stepEntry w .answer .state ≡ runEntry 1 w .answer .state)
+    × (stepEntry w .mem ≡ runEntry 1 w .mem)
+    × (stepEntry w .row ≡ runEntry 1 w .row)
+
+-- a run retires at most the budget, and the count grows by the number retired
 abbrev pub Counts : Type 0
 Counts = (b : ℕ) (w : World) → (retired b w ≤ b) × (ran b w .st .count ≡ w .st .count + retired b w)
 
@@ -52,6 +75,6 @@ NoBudget = (w : World) → (ran 0 w ≡ w) × (retired 0 w ≡ 0)
 abbrev pub StaysStopped : Type 0
 StaysStopped = (b : ℕ) (w : World) → paused w ≡ false → (stepped w ≡ w) × (ran b w ≡ w) × (retired b w ≡ 0)
 
--- a run that began paused and has retired exactly the budget is paused
+-- a run that began paused is paused exactly if it has retired the budget, even if the next step would stop
 abbrev pub PausedAtBudget : Type 0
-PausedAtBudget = (b : ℕ) (w : World) → paused w ≡ true → retired b w ≡ b → paused (ran b w) ≡ true
+PausedAtBudget = (b : ℕ) (w : World) → paused w ≡ true → (paused (ran b w) ≡ true) ↔ (retired b w ≡ b)

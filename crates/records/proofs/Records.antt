@@ -1,35 +1,37 @@
--- A record's bytes, front to back: what its writer and its reader come to in each turn, and that a record reads back as its state. Assumes nothing.
+-- A record's bytes, front to back: what its writer and its reader come to in each turn, and that a record reads back as its state, and bytes that are sound as their record. Assumes nothing.
 use Prim.Native.Nat.{ℕ, zero, suc, _+_, _*_, _/_, _^_, _%_, _≤_, _<_}
 use native.Mathlib.Nat.{mod-eq-of-lt}
 use native.Mathlib.Numerals.{add-one}
 use native.Mathlib.Omega.{arith}
 use mathlib.Core.Path.{_≡_, refl, sym, ap, _∙_}
 use mathlib.Core.List.{List, [], _∷_, _++_, append-assoc, append-nil}
-use lib.ListN.{length, take, drop, getD, set, length-append, length-take}
-use lib.Seq.{take-at, drop-at, take-suc, take-all, take-suc-set, drop-drop}
-use Rattle.octets.specs.Bytes.{le, ofLe, load, store}
-use Rattle.octets.proofs.Bytes.{length-le, length-store, of-le, load-add, load-one}
+use lib.ListN.{length, take, drop, getD, set, length-append, length-take, length-drop}
+use lib.Seq.{take-at, drop-at, take-suc, take-all, take-suc-set, drop-drop, take-add}
+use Rattle.octets.specs.Bytes.{littleEndian, ofLittleEndian, load, store}
+use Rattle.octets.proofs.Bytes.{length-le, length-store, of-le, load-one, load-among, load-add}
 use Rattle.state.specs.declared.State.{State}
-use Rattle.state.specs.Sizes.{AllBelow, Fits}
+use Rattle.word.specs.Bounds.{AllBelow}
+use Rattle.state.specs.Sizes.{Fits}
+use Rattle.word.proofs.Bounds.{below-drop}
 use Rattle.records.specs.Records.{words, ofWords, recordOf, stateOf}
 
 -- ---- writing
 
 -- a store leaves what is before it, and its bytes
-take-store : (n a v : ℕ) (m : List ℕ) → a + n ≤ length m → take (a + n) (store n a v m) ≡ take a m ++ le n v
+take-store : (n a v : ℕ) (m : List ℕ) → a + n ≤ length m → take (a + n) (store n a v m) ≡ take a m ++ littleEndian n v
 unfolding store
-take-store n a v m h = take-at (take a m ++ le n v) (drop (a + n) m) (a + n) (simp (length-append, length-take, length-le) (omega arith))
+take-store n a v m h = take-at (take a m ++ littleEndian n v) (drop (a + n) m) (a + n) (simp (length-append, length-take, length-le) (omega arith))
 
 words-append : (s t : List ℕ) → words (s ++ t) ≡ words s ++ words t
 unfolding words
 words-append [] t = refl
 words-append (v ∷ s) t = rw (words-append s t) (simp append-assoc)
 
-words-one : (v : ℕ) → words (v ∷ []) ≡ le 4 v
+words-one : (v : ℕ) → words (v ∷ []) ≡ littleEndian 4 v
 unfolding words
-words-one v = append-nil (le 4 v)
+words-one v = append-nil (littleEndian 4 v)
 
-pub write-start : (v : ℕ) (m m′ : List ℕ) → 4 ≤ length m → m′ ≡ store 4 0 v m → take 4 m′ ≡ le 4 v ++ words []
+pub write-start : (v : ℕ) (m m′ : List ℕ) → 4 ≤ length m → m′ ≡ store 4 0 v m → take 4 m′ ≡ littleEndian 4 v ++ words []
 unfolding words
 write-start v m m′ h e = rw (e, append-nil) (take-store 4 0 v m h)
 
@@ -44,21 +46,21 @@ write-turn p x i m m′ hx hm e e′ =
     (simp append-assoc)
 
 -- a byte as eight: seven zeros follow it
-byte-as-eight : (v : ℕ) → v < 256 → le 8 v ≡ le 1 v ++ le 7 0
-unfolding le
-byte-as-eight v h = let e : v / 256 ≡ 0 = omega arith in ap (λ (q : ℕ). v % 256 ∷ le 7 q) e
+byte-as-eight : (v : ℕ) → v < 256 → littleEndian 8 v ≡ littleEndian 1 v ++ littleEndian 7 0
+unfolding littleEndian
+byte-as-eight v h = let e : v / 256 ≡ 0 = omega arith in ap (λ (q : ℕ). v % 256 ∷ littleEndian 7 q) e
 
 -- the two numbers that follow the words
 pub write-done : (p x : List ℕ) (r q i : ℕ) (m m₁ m₂ : List ℕ) → length x ≡ 31 → i ≡ 31 → length m ≡ 144 → q < 256
     → take (4 + 4 * i) m ≡ p ++ words (take i x) → m₁ ≡ store 8 128 r m → m₂ ≡ store 8 136 q m₁
-    → m₂ ≡ p ++ words x ++ le 8 r ++ le 1 q ++ le 7 0
+    → m₂ ≡ p ++ words x ++ littleEndian 8 r ++ littleEndian 1 q ++ littleEndian 7 0
 write-done p x r q i m m₁ m₂ hx hi hm hq e e₁ e₂ =
     let l₁ : length m₁ ≡ 144 = ap length e₁ ∙ length-store 8 128 r m (omega arith) ∙ hm in
     let l₂ : length m₂ ≡ 144 = ap length e₂ ∙ length-store 8 136 q m₁ (omega arith) ∙ l₁ in
     let t : take 128 m ≡ p ++ words x = rw (hi, take-all 31 x (omega arith)) at e in
-    let t₁ : take 136 m₁ ≡ p ++ words x ++ le 8 r = rw (e₁, ← t) (take-store 8 128 r m (omega arith)) in
-    let t₂ : take 144 m₂ ≡ take 136 m₁ ++ le 8 q = rw e₂ (take-store 8 136 q m₁ (omega arith)) in
-    sym (take-all 144 m₂ (omega arith)) ∙ t₂ ∙ (rw (t₁, byte-as-eight q hq) (sym (append-assoc (p ++ words x ++ le 8 r) (le 1 q) (le 7 0))))
+    let t₁ : take 136 m₁ ≡ p ++ words x ++ littleEndian 8 r = rw (e₁, ← t) (take-store 8 128 r m (omega arith)) in
+    let t₂ : take 144 m₂ ≡ take 136 m₁ ++ littleEndian 8 q = rw e₂ (take-store 8 136 q m₁ (omega arith)) in
+    sym (take-all 144 m₂ (omega arith)) ∙ t₂ ∙ (rw (t₁, byte-as-eight q hq) (sym (append-assoc (p ++ words x ++ littleEndian 8 r) (littleEndian 1 q) (littleEndian 7 0))))
 
 -- ---- reading
 
@@ -71,7 +73,7 @@ unfolding ofWords load
 of-words-suc zero m = refl
 of-words-suc (suc n) m =
     let k : 4 * suc n ≡ 4 + 4 * n = omega arith in
-    rw (k, ← (load-past 4 4 (4 * n) m)) (ap (λ (l : List ℕ). ofLe (take 4 m) ∷ l) (of-words-suc n (drop 4 m)))
+    rw (k, ← (load-past 4 4 (4 * n) m)) (ap (λ (l : List ℕ). ofLittleEndian (take 4 m) ∷ l) (of-words-suc n (drop 4 m)))
 
 -- a turn of the loop that reads the words
 pub read-turn : (m x : List ℕ) (i v : ℕ) → i < length x → take i x ≡ ofWords i (drop 4 m) → v ≡ load 4 (4 + 4 * i) m
@@ -94,19 +96,13 @@ unfolding words ofWords
 words-back [] r h = refl
 words-back (v ∷ x) r h =
     rw (
-      append-assoc (le 4 v) (words x) r,
-      take-at (le 4 v) (words x ++ r) 4 (length-le 4 v),
-      drop-at (le 4 v) (words x ++ r) 4 (length-le 4 v),
+      append-assoc (littleEndian 4 v) (words x) r,
+      take-at (littleEndian 4 v) (words x ++ r) 4 (length-le 4 v),
+      drop-at (littleEndian 4 v) (words x ++ r) 4 (length-le 4 v),
       of-le 4 v,
       mod-eq-of-lt (h .0),
       words-back x r (h .1),
     )
-
--- the number among bytes before and after it
-load-among : (n k v : ℕ) (p q : List ℕ) → length p ≡ k → load n k (p ++ le n v ++ q) ≡ v % 2 ^ (8 * n)
-unfolding load
-load-among n k v p q h =
-    rw (append-assoc p (le n v) q, drop-at p (le n v ++ q) k h, take-at (le n v) q n (length-le n v), of-le)
 
 -- a record's bytes with their lengths
 module _ (s : State) (l : length (s .x) ≡ 31) where
@@ -121,17 +117,17 @@ module _ (s : State) (l : length (s .x) ≡ 31) where
   unfolding recordOf
   rest-zero =
       let w = length-words-31 in
-      let p : List ℕ = le 4 (s .pc) ++ words (s .x) ++ le 8 (s .count) ++ le 1 (s .stop) in
-      ap (load 7 137) (sym (append-nil (p ++ le 7 0))) ∙ load-among 7 137 0 p [] (simp (length-append, length-le) (omega arith))
+      let p : List ℕ = littleEndian 4 (s .pc) ++ words (s .x) ++ littleEndian 8 (s .count) ++ littleEndian 1 (s .stop) in
+      ap (load 7 137) (sym (append-nil (p ++ littleEndian 7 0))) ∙ load-among 7 137 0 p [] (simp (length-append, length-le) (omega arith))
 
 pub read-back : (s : State) → Fits s → stateOf (recordOf s) ≡ s
 unfolding stateOf recordOf
 read-back s h =
-    let a = le 4 (s .pc) in
+    let a = littleEndian 4 (s .pc) in
     let w = words (s .x) in
-    let r = le 8 (s .count) in
-    let q = le 1 (s .stop) in
-    let z = le 7 0 in
+    let r = littleEndian 8 (s .count) in
+    let q = littleEndian 1 (s .stop) in
+    let z = littleEndian 7 0 in
     let lw = length-words-31 s (h .x-length) in
     let pc-first : a ++ w ++ r ++ q ++ z ≡ a ++ (w ++ (r ++ (q ++ z))) = simp append-assoc in
     let count-next : a ++ w ++ r ++ q ++ z ≡ a ++ w ++ r ++ (q ++ z) = append-assoc (a ++ w ++ r) q z in
@@ -145,3 +141,45 @@ read-back s h =
     let stop : load 1 136 (a ++ w ++ r ++ q ++ z) ≡ s .stop =
     load-among 1 136 (s .stop) (a ++ w ++ r) z (simp (length-append, length-le) (omega arith)) ∙ mod-eq-of-lt (h .stop-fits) in
     rw (pc, x, count, stop)
+
+-- ---- bytes read and written back
+
+-- n bytes are those of the number that they say
+le-of : (n : ℕ) (m : List ℕ) → n ≤ length m → AllBelow (2 ^ 8) m → littleEndian n (ofLittleEndian (take n m)) ≡ take n m
+unfolding littleEndian ofLittleEndian
+le-of zero m h b = refl
+le-of (suc n) [] h b = absurd (omega arith)
+le-of (suc n) (v ∷ m) h b =
+    let low : (v + 256 * ofLittleEndian (take n m)) % 256 ≡ v = omega (arith, b .0) in
+    let high : (v + 256 * ofLittleEndian (take n m)) / 256 ≡ ofLittleEndian (take n m) = omega (arith, b .0) in
+    rw (low, high, le-of n m (omega arith) (b .1))
+
+bytes-back : (n a : ℕ) (m : List ℕ) → a + n ≤ length m → AllBelow (2 ^ 8) m → littleEndian n (load n a m) ≡ take n (drop a m)
+unfolding load
+bytes-back n a m h b = le-of n (drop a m) (rw length-drop (omega arith)) (below-drop (2 ^ 8) a m b)
+
+of-words-back : (n : ℕ) (m : List ℕ) → 4 * n ≤ length m → AllBelow (2 ^ 8) m → words (ofWords n m) ≡ take (4 * n) m
+unfolding words ofWords
+of-words-back zero m h b = refl
+of-words-back (suc n) m h b =
+    let k : 4 * suc n ≡ 4 + 4 * n = omega arith in
+    rw (k, take-add 4 (4 * n) m, le-of 4 m (omega arith) b, of-words-back n (drop 4 m) (rw length-drop (omega arith)) (below-drop (2 ^ 8) 4 m b))
+
+-- 144 bytes whose last seven are zero are the record of the state that they say
+pub write-back : (m : List ℕ) → length m ≡ 144 → AllBelow (2 ^ 8) m → load 7 137 m ≡ 0 → recordOf (stateOf m) ≡ m
+unfolding recordOf stateOf
+write-back m l b z =
+    let rest : littleEndian 7 0 ≡ take 7 (drop 137 m) = ap (littleEndian 7) (sym z) ∙ bytes-back 7 137 m (omega arith) b in
+    let joined : (a n : ℕ) → take a m ++ take n (drop a m) ≡ take (a + n) m = λ a n. sym (take-add a n m) in
+    rw (
+      bytes-back 4 0 m (omega arith) b,
+      of-words-back 31 (drop 4 m) (rw length-drop (omega arith)) (below-drop (2 ^ 8) 4 m b),
+      bytes-back 8 128 m (omega arith) b,
+      bytes-back 1 136 m (omega arith) b,
+      rest,
+      joined 4 124,
+      joined 128 8,
+      joined 136 1,
+      joined 137 7,
+    )
+    (take-all 144 m (omega arith))

@@ -4,22 +4,22 @@ use mathlib.Core.Bool.{Bool, _&&_}
 use mathlib.Core.List.{List, [], _∷_, _++_}
 use lib.ListN.{take, drop}
 use lib.Dec.{eqb}
-use Rattle.octets.specs.Bytes.{le, ofLe, load}
+use Rattle.octets.specs.Bytes.{littleEndian, ofLittleEndian, load}
 use Rattle.state.specs.declared.State.{State}
 use Rattle.state.specs.States.{state, wellFormed}
 
 -- numbers as four bytes each, one after the other
 unfoldable pub words : List ℕ → List ℕ
 words [] = []
-words (v ∷ vs) = le 4 v ++ words vs
+words (v ∷ vs) = littleEndian 4 v ++ words vs
 
 -- the n numbers that so many times four bytes say
 unfoldable pub ofWords : ℕ → List ℕ → List ℕ
 ofWords zero m = []
-ofWords (suc n) m = ofLe (take 4 m) ∷ ofWords n (drop 4 m)
+ofWords (suc n) m = ofLittleEndian (take 4 m) ∷ ofWords n (drop 4 m)
 
 unfoldable pub recordOf : State → List ℕ
-recordOf s = le 4 (s .pc) ++ words (s .x) ++ le 8 (s .count) ++ le 1 (s .stop) ++ le 7 0
+recordOf s = littleEndian 4 (s .pc) ++ words (s .x) ++ littleEndian 8 (s .count) ++ littleEndian 1 (s .stop) ++ littleEndian 7 0
 
 unfoldable pub stateOf : List ℕ → State
 stateOf m = state (load 4 0 m) (ofWords 31 (drop 4 m)) (load 8 128 m) (load 1 136 m)

@@ -1,9 +1,9 @@
 // A state as its record of 144 bytes, and back.
 use octets::load4;
 use octets::load8;
-use octets::store4;
-use octets::store8;
 use state::State;
+use stores::store4;
+use stores::store8;
 ghost use mathlib.Core.Path.{_≡_};
 ghost use lib.ListN.{length};
 ghost use Rattle.records.specs.Records.{recordOf, stateOf, recordSound};

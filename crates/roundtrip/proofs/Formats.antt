@@ -1,15 +1,10 @@
 -- The formats and the immediates of the manual as digits, and the digits of each instruction's word. Assumes nothing.
-use mathlib.Core.Path.{_≡_, refl, sym, ap, _∙_}
-use mathlib.Core.Bool.{Bool, false, _&&_}
-use Prim.Native.Nat.{ℕ, _+_, _-_, _/_, _%_, _^_, _≤_}
-use native.Mathlib.Omega.{arith}
-use lib.Dec.{T, eqb, leb, leb→le, eqb→eq}
-use lib.Pow.{mod-mod-pow}
-use Rattle.word.proofs.Bools.{and-left, and-right}
+use mathlib.Core.Path.{_≡_, refl}
+use Prim.Native.Nat.{ℕ, _/_, _^_}
 use Rattle.isa.specs.Encoding.{wordOf, condCode, loadCode, storeCode, immCode, shiftCode, shiftCode7, arithCode, arithCode7, mulDivCode}
 use Rattle.isa.specs.declared.Inst.{Inst}
 use Rattle.isa.specs.declared.Inst.the-variants.{Lui, Auipc, Jal, Jalr, Branch, Load, Store, Imm, Shift, Arith, Fence, Ecall, Ebreak, MulDiv}
-use Rattle.roundtrip.proofs.Digits.{Digits, last, clear, put, width, value, Has}
+use Rattle.roundtrip.proofs.Digits.{Digits, last, clear, put, width, value}
 
 -- ---- the formats
 
@@ -64,34 +59,20 @@ digitsOf Ecall = formatI 0 0 0b000 0 0b1110011
 digitsOf Ebreak = formatI 1 0 0b000 0 0b1110011
 digitsOf (MulDiv o rd rs1 rs2) = formatR 0b0000001 (rs2 .number) (rs1 .number) (mulDivCode o) (rd .number) 0b0110011
 
--- the lowest digit ends in the bits 11
-abbrev pub ends : Digits → Bool
-ends (last k n) = leb 2 k && eqb (n % 2 ^ k % 4) 3
-ends (clear k) = false
-ends (put k n ds) = ends ds
-
-pub has-end : (w : ℕ) (ds : Digits) → T (ends ds) → Has w ds → w % 4 ≡ 3
-has-end w (last k n) t h =
-    let wide : 2 ≤ k = leb→le 2 k (and-left (leb 2 k) (eqb (n % 2 ^ k % 4) 3) t) in
-    let e : k - 2 + 2 ≡ k = omega arith in
-    sym (mod-mod-pow w (k - 2) 2) ∙ ap (λ (j : ℕ). w % 2 ^ j % 4) e ∙ ap (λ (x : ℕ). x % 4) h ∙ eqb→eq (n % 2 ^ k % 4) 3 (and-right (leb 2 k) (eqb (n % 2 ^ k % 4) 3) t)
-has-end w (clear k) t h = absurd t
-has-end w (put k n ds) t h = has-end w ds t (h .1)
-
--- the word is the sum of its digits, which have 32 bits and end in 11
-pub word-is : (i : Inst) → (wordOf i ≡ value (digitsOf i)) × (width (digitsOf i) ≡ 32) × T (ends (digitsOf i))
+-- the word is the sum of its digits, which have 32 bits
+pub word-is : (i : Inst) → (wordOf i ≡ value (digitsOf i)) × (width (digitsOf i) ≡ 32)
 unfolding wordOf
-word-is (Lui rd field) = (refl, refl, tt)
-word-is (Auipc rd field) = (refl, refl, tt)
-word-is (Jal rd imm) = (refl, refl, tt)
-word-is (Jalr rd rs1 imm) = (refl, refl, tt)
-word-is (Branch o rs1 rs2 imm) = (refl, refl, tt)
-word-is (Load o rd rs1 imm) = (refl, refl, tt)
-word-is (Store o rs1 rs2 imm) = (refl, refl, tt)
-word-is (Imm o rd rs1 imm) = (refl, refl, tt)
-word-is (Shift o rd rs1 amount) = (refl, refl, tt)
-word-is (Arith o rd rs1 rs2) = (refl, refl, tt)
-word-is (Fence rd rs1 field) = (refl, refl, tt)
-word-is Ecall = (refl, refl, tt)
-word-is Ebreak = (refl, refl, tt)
-word-is (MulDiv o rd rs1 rs2) = (refl, refl, tt)
+word-is (Lui rd field) = (refl, refl)
+word-is (Auipc rd field) = (refl, refl)
+word-is (Jal rd imm) = (refl, refl)
+word-is (Jalr rd rs1 imm) = (refl, refl)
+word-is (Branch o rs1 rs2 imm) = (refl, refl)
+word-is (Load o rd rs1 imm) = (refl, refl)
+word-is (Store o rs1 rs2 imm) = (refl, refl)
+word-is (Imm o rd rs1 imm) = (refl, refl)
+word-is (Shift o rd rs1 amount) = (refl, refl)
+word-is (Arith o rd rs1 rs2) = (refl, refl)
+word-is (Fence rd rs1 field) = (refl, refl)
+word-is Ecall = (refl, refl)
+word-is Ebreak = (refl, refl)
+word-is (MulDiv o rd rs1 rs2) = (refl, refl)

@@ -4,3 +4,4 @@ pub mod Formats
 pub mod Reading
 pub mod Meaning
 pub mod Words
+pub mod Same

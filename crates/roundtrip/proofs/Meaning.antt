@@ -1,16 +1,16 @@
 -- What a word means is in range, and the word has its digits: said of each row of the tables, so of what is found there. Assumes nothing.
 use mathlib.Core.Path.{_≡_, sym, _∙_, subst}
-use mathlib.Core.Bool.{Bool, true, _&&_}
+use mathlib.Core.Bool.{Bool, _&&_}
 use mathlib.Core.List.{List, [], _∷_}
 use Prim.Native.Nat.{ℕ, _/_, _%_, _^_}
 use lib.Dec.{T, eqb, ltb, eqb→eq}
 use Rattle.word.specs.Bits.{bits}
 use Rattle.word.specs.Tables.{find}
 use Rattle.word.proofs.Bools.{and-left, and-right, and-both}
-use Rattle.word.proofs.Rows.{Each, found}
+use Rattle.word.proofs.Rows.{_and_, found, passes, found-passing}
 use Rattle.isa.specs.Registers.{reg}
 use Rattle.isa.specs.Fields.{opcode, rd, funct3, rs1, rs2, shamt, funct7, funct12, immI, immS, immB, fieldU, immJ}
-use Rattle.isa.specs.Decoding.{decoded, opcodes, branches, loads, stores, lefts, rights, immediates, ariths, others, mulDivs, registers, systems, jalrOf, branchOf, loadOf, storeOf, shiftOf, immediateOf, arithOf, mulDivOf, registerOf, fenceOf, systemOf}
+use Rattle.isa.specs.Decoding.{decoded, opcodes, branches, loads, stores, lefts, rights, immediates, ariths, others, mulDivs, registers, systems, decodeJalr, decodeBranch, decodeLoad, decodeStore, decodeShift, decodeImmediate, decodeArith, decodeMulDiv, decodeRegister, decodeFence, decodeSystem}
 use Rattle.isa.specs.Encoding.{inRange, regOk, signedOk, evenOk, condCode, loadCode, storeCode, immCode, shiftCode, shiftCode7, arithCode, arithCode7, mulDivCode}
 use Rattle.isa.specs.declared.Inst.the-variants.{Jalr, Branch, Load, Store, Imm, Shift, Arith, Fence, MulDiv}
 use Rattle.isa.specs.declared.ImmOp.{ImmOp}
@@ -30,21 +30,10 @@ Good w Illegal = Unit {0}
 
 -- ---- tables of operations: each row's code passes a test with its operation, as antt computes
 
-abbrev passes : {A : Type 0} → (ℕ → A → Bool) → List (ℕ × A) → Bool
-passes p [] = true
-passes p (r ∷ t) = p (r .0) (r .1) && passes p t
-
 module _ {A : Type 0} (w : ℕ) where
-  each : (p : ℕ → A → Bool) (t : List (ℕ × A)) (k : ℕ) (f : A → Decoded) → T (passes p t) → ((o : A) → T (p k o) → Good w (f o)) → Each (Good w) t k f
-  each p [] k f ok g = tt
-  each p (r ∷ t) k f ok g = (
-    λ e. g (r .1) (subst (λ (c : ℕ). T (p c (r .1))) (sym e) (and-left (p (r .0) (r .1)) (passes p t) ok)),
-    each p t k f (and-right (p (r .0) (r .1)) (passes p t) ok) g,
-  )
-
   by-test : (p : ℕ → A → Bool) (t : List (ℕ × A)) (k : ℕ) (f : A → Decoded) → T (passes p t) → ((o : A) → T (p k o) → Good w (f o))
       → Good w (find Illegal t k f)
-  by-test p t k f ok g = found (Good w) Illegal tt t k f (each p t k f ok g)
+  by-test = found-passing (Good w) Illegal tt
 
   -- the row's code is the operation's
   by-code : (code : A → ℕ) (t : List (ℕ × A)) (k : ℕ) (f : A → Decoded) → T (passes (λ k o. eqb k (code o)) t) → ((o : A) → k ≡ code o → Good w (f o))
@@ -73,7 +62,7 @@ module _ (w : ℕ) where
       → T (regOk (rd w) && (regOk (rs1 w) && regOk (rs2 w))) × Has w (formatR f7 (bits w 24 20) (bits w 19 15) f3 (bits w 11 7) op)
   r-good f7 f3 op e₇ e₃ e = (
     reg-ok (w / 2 ^ 7) (regOk (rs1 w) && regOk (rs2 w)) (reg-ok (w / 2 ^ 15) (regOk (rs2 w)) (field-ok (w / 2 ^ 20) 5)),
-    (kept (w / 2 ^ 25) 7 f7 e₇, (again (w / 2 ^ 20) 5, (again (w / 2 ^ 15) 5, (kept (w / 2 ^ 12) 3 f3 e₃, (again (w / 2 ^ 7) 5, kept w 7 op e))))),
+    kept (w / 2 ^ 25) 7 f7 e₇ and again (w / 2 ^ 20) 5 and again (w / 2 ^ 15) 5 and kept (w / 2 ^ 12) 3 f3 e₃ and again (w / 2 ^ 7) 5 and kept w 7 op e,
   )
 
   -- m is the immediate, and c says that it is in range
@@ -81,7 +70,7 @@ module _ (w : ℕ) where
       → T (regOk (rd w) && (regOk (rs1 w) && c)) × Has w (formatI m (bits w 19 15) f3 (bits w 11 7) op)
   i-good m f3 op c t em e₃ e = (
     reg-ok (w / 2 ^ 7) (regOk (rs1 w) && c) (reg-ok (w / 2 ^ 15) c t),
-    (em, (again (w / 2 ^ 15) 5, (kept (w / 2 ^ 12) 3 f3 e₃, (again (w / 2 ^ 7) 5, kept w 7 op e)))),
+    em and again (w / 2 ^ 15) 5 and kept (w / 2 ^ 12) 3 f3 e₃ and again (w / 2 ^ 7) 5 and kept w 7 op e,
   )
 
   signed-good : (f3 op : ℕ) → funct3 w ≡ f3 → opcode w ≡ op
@@ -93,7 +82,7 @@ module _ (w : ℕ) where
   s-good f3 op e₃ e =
       let h = imm-has (digitsS w) tt in (
         reg-ok (w / 2 ^ 15) (regOk (rs2 w) && signedOk 12 (immS w)) (reg-ok (w / 2 ^ 20) (signedOk 12 (immS w)) (imm-ok (digitsS w) tt)),
-        (sym (h .0), (again (w / 2 ^ 20) 5, (again (w / 2 ^ 15) 5, (kept (w / 2 ^ 12) 3 f3 e₃, (sym (h .1), kept w 7 op e))))),
+        sym (h .0) and again (w / 2 ^ 20) 5 and again (w / 2 ^ 15) 5 and kept (w / 2 ^ 12) 3 f3 e₃ and sym (h .1) and kept w 7 op e,
       )
 
   b-good : (f3 op : ℕ) → funct3 w ≡ f3 → opcode w ≡ op
@@ -102,32 +91,32 @@ module _ (w : ℕ) where
       let c = signedOk 13 (immB w) && evenOk (immB w) in
       let h = imm-has (digitsB w) tt in (
         reg-ok (w / 2 ^ 15) (regOk (rs2 w) && c) (reg-ok (w / 2 ^ 20) c (even-ok (digitsB w) tt (h .1 .1 .1 .1))),
-        (sym (h .0), (sym (h .1 .1 .0), (again (w / 2 ^ 20) 5, (again (w / 2 ^ 15) 5, (kept (w / 2 ^ 12) 3 f3 e₃, (sym (h .1 .1 .1 .0), (sym (h .1 .0), kept w 7 op e))))))),
+        sym (h .0) and sym (h .1 .1 .0) and again (w / 2 ^ 20) 5 and again (w / 2 ^ 15) 5 and kept (w / 2 ^ 12) 3 f3 e₃ and sym (h .1 .1 .1 .0) and sym (h .1 .0) and kept w 7 op e,
       )
 
   u-good : (op : ℕ) → opcode w ≡ op → T (regOk (rd w) && ltb (fieldU w) (2 ^ 20)) × Has w (formatU (fieldU w) (bits w 11 7) op)
-  u-good op e = (reg-ok (w / 2 ^ 7) (ltb (fieldU w) (2 ^ 20)) (field-ok (w / 2 ^ 12) 20), (again (w / 2 ^ 12) 20, (again (w / 2 ^ 7) 5, kept w 7 op e)))
+  u-good op e = (reg-ok (w / 2 ^ 7) (ltb (fieldU w) (2 ^ 20)) (field-ok (w / 2 ^ 12) 20), again (w / 2 ^ 12) 20 and again (w / 2 ^ 7) 5 and kept w 7 op e)
 
   j-good : (op : ℕ) → opcode w ≡ op → T (regOk (rd w) && (signedOk 21 (immJ w) && evenOk (immJ w))) × Has w (formatJ (immJ w) (bits w 11 7) op)
   j-good op e =
       let h = imm-has (digitsJ w) tt in (
         reg-ok (w / 2 ^ 7) (signedOk 21 (immJ w) && evenOk (immJ w)) (even-ok (digitsJ w) tt (h .1 .1 .1 .1)),
-        (sym (h .0), (sym (h .1 .1 .1 .0), (sym (h .1 .1 .0), (sym (h .1 .0), (again (w / 2 ^ 7) 5, kept w 7 op e))))),
+        sym (h .0) and sym (h .1 .1 .1 .0) and sym (h .1 .1 .0) and sym (h .1 .0) and again (w / 2 ^ 7) 5 and kept w 7 op e,
       )
 
 -- ---- the tables
 
 module _ (w : ℕ) where
-  branch-good : opcode w ≡ 0b1100011 → Good w (branchOf (funct3 w) (rs1 w) (rs2 w) (immB w))
+  branch-good : opcode w ≡ 0b1100011 → Good w (decodeBranch (funct3 w) (rs1 w) (rs2 w) (immB w))
   unfolding inRange
   branch-good e =
       by-code w condCode branches (funct3 w) (λ o. Legal (Branch o (rs1 w) (rs2 w) (immB w))) tt (λ o e₃. b-good w (condCode o) 0b1100011 e₃ e)
 
-  load-good : opcode w ≡ 0b0000011 → Good w (loadOf (funct3 w) (rd w) (rs1 w) (immI w))
+  load-good : opcode w ≡ 0b0000011 → Good w (decodeLoad (funct3 w) (rd w) (rs1 w) (immI w))
   unfolding inRange
   load-good e = by-code w loadCode loads (funct3 w) (λ o. Legal (Load o (rd w) (rs1 w) (immI w))) tt (λ o e₃. signed-good w (loadCode o) 0b0000011 e₃ e)
 
-  store-good : opcode w ≡ 0b0100011 → Good w (storeOf (funct3 w) (rs1 w) (rs2 w) (immS w))
+  store-good : opcode w ≡ 0b0100011 → Good w (decodeStore (funct3 w) (rs1 w) (rs2 w) (immS w))
   unfolding inRange
   store-good e = by-code w storeCode stores (funct3 w) (λ o. Legal (Store o (rs1 w) (rs2 w) (immS w))) tt (λ o e₃. s-good w (storeCode o) 0b0100011 e₃ e)
 
@@ -137,51 +126,59 @@ module _ (w : ℕ) where
 
   -- the shifts with funct3 f3
   shift-good : (t : List (ℕ × ShiftOp)) (f3 : ℕ) → T (passes (coded shiftCode7 shiftCode f3) t) → opcode w ≡ 0b0010011 → funct3 w ≡ f3
-      → Good w (shiftOf t (funct7 w) (rd w) (rs1 w) (shamt w))
+      → Good w (decodeShift t (funct7 w) (rd w) (rs1 w) (shamt w))
   unfolding inRange
   shift-good t f3 ok e e₃ =
       by-codes w shiftCode7 shiftCode f3 t (funct7 w) (λ o. Legal (Shift o (rd w) (rs1 w) (shamt w))) ok
       (λ o e₇ is. r-good w (shiftCode7 o) (shiftCode o) 0b0010011 e₇ (e₃ ∙ is) e)
 
-  immediate-good : opcode w ≡ 0b0010011 → Good w (immediateOf (funct3 w) (funct7 w) (rd w) (rs1 w) (shamt w) (immI w))
+  immediate-good : opcode w ≡ 0b0010011 → Good w (decodeImmediate (funct3 w) (funct7 w) (rd w) (rs1 w) (shamt w) (immI w))
   immediate-good e =
       found (Good w) Illegal tt (immediates (funct7 w) (rd w) (rs1 w) (shamt w) (immI w)) (funct3 w) (λ m. m)
-      (imm-good e Addi, (imm-good e Slti, (imm-good e Sltiu, (imm-good e Xori, (imm-good e Ori, (imm-good e Andi, (shift-good lefts 0b001 tt e, (shift-good rights 0b101 tt e, tt))))))))
+      (imm-good e Addi
+      and imm-good e Slti
+      and imm-good e Sltiu
+      and imm-good e Xori
+      and imm-good e Ori
+      and imm-good e Andi
+      and shift-good lefts 0b001 tt e
+      and shift-good rights 0b101 tt e
+      and tt)
 
   -- the operations with funct7 f7
   arith-good : (t : List (ℕ × ArithOp)) (f7 : ℕ) → T (passes (coded arithCode arithCode7 f7) t) → opcode w ≡ 0b0110011 → funct7 w ≡ f7
-      → Good w (arithOf t (funct3 w) (rd w) (rs1 w) (rs2 w))
+      → Good w (decodeArith t (funct3 w) (rd w) (rs1 w) (rs2 w))
   unfolding inRange
   arith-good t f7 ok e e₇ =
       by-codes w arithCode arithCode7 f7 t (funct3 w) (λ o. Legal (Arith o (rd w) (rs1 w) (rs2 w))) ok
       (λ o e₃ is. r-good w (arithCode7 o) (arithCode o) 0b0110011 (e₇ ∙ is) e₃ e)
 
-  mul-div-good : opcode w ≡ 0b0110011 → funct7 w ≡ 0b0000001 → Good w (mulDivOf (funct3 w) (rd w) (rs1 w) (rs2 w))
+  mul-div-good : opcode w ≡ 0b0110011 → funct7 w ≡ 0b0000001 → Good w (decodeMulDiv (funct3 w) (rd w) (rs1 w) (rs2 w))
   unfolding inRange
   mul-div-good e e₇ =
       by-code w mulDivCode mulDivs (funct3 w) (λ o. Legal (MulDiv o (rd w) (rs1 w) (rs2 w))) tt (λ o e₃. r-good w 0b0000001 (mulDivCode o) 0b0110011 e₇ e₃ e)
 
-  register-good : opcode w ≡ 0b0110011 → Good w (registerOf (funct7 w) (funct3 w) (rd w) (rs1 w) (rs2 w))
+  register-good : opcode w ≡ 0b0110011 → Good w (decodeRegister (funct7 w) (funct3 w) (rd w) (rs1 w) (rs2 w))
   register-good e =
       found (Good w) Illegal tt (registers (funct3 w) (rd w) (rs1 w) (rs2 w)) (funct7 w) (λ m. m)
-      (arith-good ariths 0b0000000 tt e, (arith-good others 0b0100000 tt e, (mul-div-good e, tt)))
+      (arith-good ariths 0b0000000 tt e and arith-good others 0b0100000 tt e and mul-div-good e and tt)
 
   -- a table of one row
   only : (k : ℕ) (m : Decoded) → (funct3 w ≡ k → Good w m) → Good w (find Illegal ((k, m) ∷ []) (funct3 w) (λ m. m))
-  only k m g = found (Good w) Illegal tt ((k, m) ∷ []) (funct3 w) (λ m. m) (g, tt)
+  only k m g = found (Good w) Illegal tt ((k, m) ∷ []) (funct3 w) (λ m. m) (g and tt)
 
-  jalr-good : opcode w ≡ 0b1100111 → Good w (jalrOf (funct3 w) (rd w) (rs1 w) (immI w))
+  jalr-good : opcode w ≡ 0b1100111 → Good w (decodeJalr (funct3 w) (rd w) (rs1 w) (immI w))
   unfolding inRange
   jalr-good e = only 0b000 (Legal (Jalr (rd w) (rs1 w) (immI w))) (λ e₃. signed-good w 0b000 0b1100111 e₃ e)
 
-  fence-good : opcode w ≡ 0b0001111 → Good w (fenceOf (funct3 w) (rd w) (rs1 w) (funct12 w))
+  fence-good : opcode w ≡ 0b0001111 → Good w (decodeFence (funct3 w) (rd w) (rs1 w) (funct12 w))
   unfolding inRange
   fence-good e =
       only 0b000 (Legal (Fence (rd w) (rs1 w) (funct12 w)))
       (λ e₃. i-good w (funct12 w) 0b000 0b0001111 (ltb (funct12 w) (2 ^ 12)) (field-ok (w / 2 ^ 20) 12) (again (w / 2 ^ 20) 12) e₃ e)
 
   -- the instructions that are one whole word each
-  system-good : Good w (systemOf w)
+  system-good : Good w (decodeSystem w)
   unfolding inRange
   system-good =
       by-test w (λ k i. inRange i && eqb (value (digitsOf i)) k) systems w (λ i. Legal i) tt
@@ -194,4 +191,15 @@ module _ (w : ℕ) where
   unfolding decoded inRange
   means =
       found (Good w) Illegal tt (opcodes w) (opcode w) (λ m. m)
-      (u-good w 0b0110111, (u-good w 0b0010111, (j-good w 0b1101111, (jalr-good, (branch-good, (load-good, (store-good, (immediate-good, (register-good, (fence-good, (λ e. system-good, tt)))))))))))
+      (u-good w 0b0110111
+      and u-good w 0b0010111
+      and j-good w 0b1101111
+      and jalr-good
+      and branch-good
+      and load-good
+      and store-good
+      and immediate-good
+      and register-good
+      and fence-good
+      and (λ e. system-good)
+      and tt)

@@ -9,7 +9,7 @@ use Rattle.word.specs.Tables.{find}
 use Rattle.word.proofs.Bools.{and-left, and-right}
 use Rattle.isa.specs.Registers.{reg}
 use Rattle.isa.specs.Fields.{opcode, rd, funct3, rs1, rs2, shamt, funct7, funct12, immI, immS, immB, fieldU, immJ}
-use Rattle.isa.specs.Decoding.{decoded, opcodes, jalrOf, branchOf, loadOf, storeOf, immediateOf, registerOf, fenceOf}
+use Rattle.isa.specs.Decoding.{decoded, opcodes, decodeJalr, decodeBranch, decodeLoad, decodeStore, decodeImmediate, decodeRegister, decodeFence}
 use Rattle.isa.specs.Encoding.{inRange, regOk, signedOk, evenOk, condCode, loadCode, storeCode, immCode, shiftCode, shiftCode7, arithCode, arithCode7, mulDivCode}
 use Rattle.isa.specs.declared.Reg.{Reg}
 use Rattle.isa.specs.declared.Inst.{Inst}
@@ -36,7 +36,7 @@ use Rattle.roundtrip.proofs.Formats.{formatR, formatI, formatU, digitsI
 
 -- ---- the operations, by their codes
 
-branch-is : (o : Cond) (s t : Reg) (imm : ℕ) → branchOf (low 3 (condCode o)) s t imm ≡ Legal (Branch o s t imm)
+branch-is : (o : Cond) (s t : Reg) (imm : ℕ) → decodeBranch (low 3 (condCode o)) s t imm ≡ Legal (Branch o s t imm)
 branch-is Beq s t imm = refl
 branch-is Bne s t imm = refl
 branch-is Blt s t imm = refl
@@ -44,19 +44,19 @@ branch-is Bge s t imm = refl
 branch-is Bltu s t imm = refl
 branch-is Bgeu s t imm = refl
 
-load-is : (o : LoadOp) (d s : Reg) (imm : ℕ) → loadOf (low 3 (loadCode o)) d s imm ≡ Legal (Load o d s imm)
+load-is : (o : LoadOp) (d s : Reg) (imm : ℕ) → decodeLoad (low 3 (loadCode o)) d s imm ≡ Legal (Load o d s imm)
 load-is Lb d s imm = refl
 load-is Lh d s imm = refl
 load-is Lw d s imm = refl
 load-is Lbu d s imm = refl
 load-is Lhu d s imm = refl
 
-store-is : (o : StoreOp) (s t : Reg) (imm : ℕ) → storeOf (low 3 (storeCode o)) s t imm ≡ Legal (Store o s t imm)
+store-is : (o : StoreOp) (s t : Reg) (imm : ℕ) → decodeStore (low 3 (storeCode o)) s t imm ≡ Legal (Store o s t imm)
 store-is Sb s t imm = refl
 store-is Sh s t imm = refl
 store-is Sw s t imm = refl
 
-immediate-is : (o : ImmOp) (f7 : ℕ) (d s : Reg) (amount imm : ℕ) → immediateOf (low 3 (immCode o)) f7 d s amount imm ≡ Legal (Imm o d s imm)
+immediate-is : (o : ImmOp) (f7 : ℕ) (d s : Reg) (amount imm : ℕ) → decodeImmediate (low 3 (immCode o)) f7 d s amount imm ≡ Legal (Imm o d s imm)
 immediate-is Addi f7 d s amount imm = refl
 immediate-is Slti f7 d s amount imm = refl
 immediate-is Sltiu f7 d s amount imm = refl
@@ -65,12 +65,12 @@ immediate-is Ori f7 d s amount imm = refl
 immediate-is Andi f7 d s amount imm = refl
 
 shift-is : (o : ShiftOp) (d s : Reg) (amount imm : ℕ)
-    → immediateOf (low 3 (shiftCode o)) (low 7 (shiftCode7 o)) d s amount imm ≡ Legal (Shift o d s amount)
+    → decodeImmediate (low 3 (shiftCode o)) (low 7 (shiftCode7 o)) d s amount imm ≡ Legal (Shift o d s amount)
 shift-is Slli d s amount imm = refl
 shift-is Srli d s amount imm = refl
 shift-is Srai d s amount imm = refl
 
-arith-is : (o : ArithOp) (d s t : Reg) → registerOf (low 7 (arithCode7 o)) (low 3 (arithCode o)) d s t ≡ Legal (Arith o d s t)
+arith-is : (o : ArithOp) (d s t : Reg) → decodeRegister (low 7 (arithCode7 o)) (low 3 (arithCode o)) d s t ≡ Legal (Arith o d s t)
 arith-is Add d s t = refl
 arith-is Sub d s t = refl
 arith-is Sll d s t = refl
@@ -82,7 +82,7 @@ arith-is Sra d s t = refl
 arith-is Or d s t = refl
 arith-is And d s t = refl
 
-mul-div-is : (o : MulDivOp) (d s t : Reg) → registerOf 0b0000001 (low 3 (mulDivCode o)) d s t ≡ Legal (MulDiv o d s t)
+mul-div-is : (o : MulDivOp) (d s t : Reg) → decodeRegister 0b0000001 (low 3 (mulDivCode o)) d s t ≡ Legal (MulDiv o d s t)
 mul-div-is Mul d s t = refl
 mul-div-is Mulh d s t = refl
 mul-div-is Mulhsu d s t = refl
@@ -150,25 +150,25 @@ reads w (Auipc d field) l ok h = u-means w field 0b0010111 d (λ d n. Legal (Aui
 reads w (Jal d imm) l ok (h20, (h1, (h11, (h12, (hd, ho))))) =
     let p = with-reg (signedOk 21 imm && evenOk imm) (bits w 11 7) d hd (j-imm w imm h20 h1 h11 h12) ok in
     row w 0b1101111 ho ∙ (λ i. Legal (Jal (p i .0) (p i .1)))
-reads w (Jalr d s imm) l ok h = i-means w imm 0b000 0b1100111 (immI w) d s (signedOk 12 imm) jalrOf refl (i-imm w imm) ok h
+reads w (Jalr d s imm) l ok h = i-means w imm 0b000 0b1100111 (immI w) d s (signedOk 12 imm) decodeJalr refl (i-imm w imm) ok h
 reads w (Branch o s t imm) l ok (h12, (h5, (ht, (hs, (h3, (h1, (h11, ho))))))) =
     let c = signedOk 13 imm && evenOk imm in
     let p = with-reg (regOk t && c) (bits w 19 15) s hs (with-reg c (bits w 24 20) t ht (b-imm w imm h12 h5 h1 h11)) ok in
-    row w 0b1100011 ho ∙ (λ i. branchOf (h3 i) (p i .0) (p i .1 .0) (p i .1 .1)) ∙ branch-is o s t imm
-reads w (Load o d s imm) l ok h = i-means w imm (loadCode o) 0b0000011 (immI w) d s (signedOk 12 imm) loadOf refl (i-imm w imm) ok h ∙ load-is o d s imm
+    row w 0b1100011 ho ∙ (λ i. decodeBranch (h3 i) (p i .0) (p i .1 .0) (p i .1 .1)) ∙ branch-is o s t imm
+reads w (Load o d s imm) l ok h = i-means w imm (loadCode o) 0b0000011 (immI w) d s (signedOk 12 imm) decodeLoad refl (i-imm w imm) ok h ∙ load-is o d s imm
 reads w (Store o s t imm) l ok (h5, (ht, (hs, (h3, (h0, ho))))) =
     let c = signedOk 12 imm in
     let p = with-reg (regOk t && c) (bits w 19 15) s hs (with-reg c (bits w 24 20) t ht (s-imm w imm h5 h0)) ok in
-    row w 0b0100011 ho ∙ (λ i. storeOf (h3 i) (p i .0) (p i .1 .0) (p i .1 .1)) ∙ store-is o s t imm
+    row w 0b0100011 ho ∙ (λ i. decodeStore (h3 i) (p i .0) (p i .1 .0) (p i .1 .1)) ∙ store-is o s t imm
 reads w (Imm o d s imm) l ok h =
-    i-means w imm (immCode o) 0b0010011 (immI w) d s (signedOk 12 imm) (λ f d s n. immediateOf f (funct7 w) d s (shamt w) n) refl (i-imm w imm) ok h
+    i-means w imm (immCode o) 0b0010011 (immI w) d s (signedOk 12 imm) (λ f d s n. decodeImmediate f (funct7 w) d s (shamt w) n) refl (i-imm w imm) ok h
     ∙ immediate-is o (funct7 w) d s (shamt w) imm
 reads w (Shift o d s amount) l ok h =
-    r-means w (shiftCode7 o) (shiftCode o) 0b0010011 d s (reg amount) (λ f7 f3 d s t. immediateOf f3 f7 d s (t .number) (immI w)) refl ok h
+    r-means w (shiftCode7 o) (shiftCode o) 0b0010011 d s (reg amount) (λ f7 f3 d s t. decodeImmediate f3 f7 d s (t .number) (immI w)) refl ok h
     ∙ shift-is o d s amount (immI w)
-reads w (Arith o d s t) l ok h = r-means w (arithCode7 o) (arithCode o) 0b0110011 d s t registerOf refl ok h ∙ arith-is o d s t
+reads w (Arith o d s t) l ok h = r-means w (arithCode7 o) (arithCode o) 0b0110011 d s t decodeRegister refl ok h ∙ arith-is o d s t
 reads w (Fence d s field) l ok h =
-    i-means w field 0b000 0b0001111 (funct12 w) d s (ltb field (2 ^ 12)) fenceOf refl (λ e k. field-is (funct12 w) 12 field k e) ok h
+    i-means w field 0b000 0b0001111 (funct12 w) d s (ltb field (2 ^ 12)) decodeFence refl (λ e k. field-is (funct12 w) 12 field k e) ok h
 reads w Ecall l ok h = ap decoded (sym (whole w (digitsOf Ecall) l h))
 reads w Ebreak l ok h = ap decoded (sym (whole w (digitsOf Ebreak) l h))
-reads w (MulDiv o d s t) l ok h = r-means w 0b0000001 (mulDivCode o) 0b0110011 d s t registerOf refl ok h ∙ mul-div-is o d s t
+reads w (MulDiv o d s t) l ok h = r-means w 0b0000001 (mulDivCode o) 0b0110011 d s t decodeRegister refl ok h ∙ mul-div-is o d s t

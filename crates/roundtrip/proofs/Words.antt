@@ -2,7 +2,7 @@
 -- Assumes nothing.
 use mathlib.Core.Path.{_≡_, refl, sym, ap, _∙_, subst}
 use mathlib.Core.Bool.{Bool, true, false, cond}
-use Prim.Native.Nat.{ℕ, _%_, _^_, _<_}
+use Prim.Native.Nat.{ℕ, _^_, _<_}
 use lib.Dec.{T}
 use Rattle.word.proofs.Bools.{holds, is-true}
 use Rattle.isa.specs.Decoding.{decoded}
@@ -11,7 +11,7 @@ use Rattle.isa.specs.declared.Inst.{Inst}
 use Rattle.isa.specs.declared.Decoded.the-variants.{Legal}
 use Rattle.isa.specs.declared.Encoded.the-variants.{Bits, OutOfRange}
 use Rattle.roundtrip.proofs.Digits.{value, Has, value-lt, value-has, whole}
-use Rattle.roundtrip.proofs.Formats.{digitsOf, word-is, has-end}
+use Rattle.roundtrip.proofs.Formats.{digitsOf, word-is}
 use Rattle.roundtrip.proofs.Reading.{reads}
 use Rattle.roundtrip.proofs.Meaning.{Good, means}
 
@@ -23,10 +23,6 @@ word-has i = subst (λ (w : ℕ). Has w (digitsOf i)) (sym (word-is i .0)) (valu
 -- it has 32 bits
 pub word-lt : (i : Inst) → wordOf i < 2 ^ 32
 word-lt i = rw (word-is i .0) (subst (λ (k : ℕ). value (digitsOf i) < 2 ^ k) (word-is i .1) (value-lt (digitsOf i)))
-
--- and its low two bits are 11
-pub word-long : (i : Inst) → wordOf i % 4 ≡ 3
-word-long i = has-end (wordOf i) (digitsOf i) (word-is i .2) (word-has i)
 
 -- ---- decoding an instruction's word gives the instruction
 
@@ -48,10 +44,10 @@ good : (w : ℕ) (i : Inst) → decoded w ≡ Legal i → T (inRange i) × Has w
 good w i e = subst (Good w) e (means w)
 
 -- what a word means is in range
-pub decoded-in-range : (w : ℕ) (i : Inst) → w < 2 ^ 32 → decoded w ≡ Legal i → inRange i ≡ true
-decoded-in-range w i l e = is-true (inRange i) (good w i e .0)
+pub decoded-in-range : (w : ℕ) (i : Inst) → decoded w ≡ Legal i → inRange i ≡ true
+decoded-in-range w i e = is-true (inRange i) (good w i e .0)
 
 pub encode-decode : (w : ℕ) (i : Inst) → w < 2 ^ 32 → decoded w ≡ Legal i → encoded i ≡ Bits w
 encode-decode w i l e =
     let l₃₂ = subst (λ (k : ℕ). w < 2 ^ k) (sym (word-is i .1)) l in
-    ap (λ (b : Bool). cond b (Bits (wordOf i)) OutOfRange) (decoded-in-range w i l e) ∙ ap Bits (word-is i .0 ∙ whole w (digitsOf i) l₃₂ (good w i e .1))
+    ap (λ (b : Bool). cond b (Bits (wordOf i)) OutOfRange) (decoded-in-range w i e) ∙ ap Bits (word-is i .0 ∙ whole w (digitsOf i) l₃₂ (good w i e .1))

@@ -217,7 +217,7 @@ fn by_trial(i: Inst) -> Shortened
 pub fn shorten(i: Inst) -> Shortened
     ensures { λ r. ⌜ r ≡ shortened i ⌝ }
 {
-    if encoder::in_range(i) {
+    if ranges::in_range(i) {
         by_trial(i)
     } else {
         Shortened::OutOfRange

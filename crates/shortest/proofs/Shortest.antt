@@ -18,7 +18,7 @@ use Rattle.isa.specs.Shortening.{means, stands, smallest, shortened}
 use Rattle.shortest.specs.Trial.{tried}
 use Rattle.shortest.proofs.Best.{best-of}
 use Rattle.shortest.proofs.Smallest.{none, one}
-use Rattle.shortest.proofs.Same.{same}
+use Rattle.roundtrip.proofs.Same.{same}
 use Rattle.shortest.proofs.Half.{half}
 
 -- a halfword that stands for i means i

@@ -10,21 +10,16 @@ use lib.Dec.{eqb}
 use borrow.Author.Tests.{ltb-true, not-false}
 use Rattle.word.proofs.Bools.{and-right, is-true, holds}
 use Rattle.answers.proofs.Checks.{passed}
-use Rattle.answers.specs.declared.Refusal.{Refusal}
 use Rattle.answers.specs.declared.Refusal.the-variants as R
 use Rattle.answers.specs.declared.Check.{Check}
 use Rattle.answers.specs.declared.Check.the-variants.{Passed, Refused}
-use Rattle.state.specs.declared.State.{State}
-use Rattle.machine.specs.Steps.{world, ran, retired}
-use Rattle.machine.proofs.Laws.{count-grew}
-use Rattle.records.specs.Records.{recordOf, stateOf}
+use Rattle.records.specs.Records.{stateOf}
 use Rattle.slots.specs.declared.ReadBack.{ReadBack}
-use Rattle.slots.specs.declared.Resumed.the-variants as A
-use Rattle.slots.specs.Slots.{slotThere, slotAt, slotSet, readChecked, readDecided, readEntry, sheet, resumeChecked, resumeDecided, resumeEntry}
+use Rattle.slots.specs.Slots.{slotThere, slotAt, slotSet, readChecked, readDecided, readEntry}
 
--- the part from the slot's start to its end
-pub one-record : (k : ℕ) → 144 * k + 144 - 144 * k ≡ 144
-one-record k = omega arith
+-- the part from a slot's start to its end
+pub one-record : (start : ℕ) → start + 144 - start ≡ 144
+one-record start = omega arith
 
 pub there-fits : (k : ℕ) (slots : List ℕ) → slotThere k slots ≡ true → 144 * k + 144 ≤ length slots
 there-fits k slots h =
@@ -74,19 +69,3 @@ module _ (k : ℕ) (slots : List ℕ) {b : ReadBack} (e : b ≡ readEntry k slot
 
   pub read-fits : b .check ≡ Passed → 144 * k + 144 ≤ length slots
   read-fits h = there-fits k slots (passed (slotThere k slots) R.Slot _ (read-says h) .0)
-
--- ---- what running slot k answers
-
-pub resume-refused : (budget k : ℕ) (m f slots : List ℕ) {r : Refusal} → resumeChecked k m f slots ≡ Refused r
-    → sheet (A.Refused r) m f slots ≡ resumeEntry budget k m f slots
-unfolding resumeDecided
-resume-refused budget k m f slots e = rw e
-
-pub resume-given : (budget k : ℕ) (m f slots : List ℕ) {s t : State} {m′ f′ slots′ : List ℕ}
-    → resumeChecked k m f slots ≡ Passed → s ≡ stateOf (slotAt k slots) → world t m′ f′ ≡ ran budget (world s m f)
-    → slots′ ≡ slotSet k (recordOf t) slots → sheet (A.Retired (t .count - s .count)) m′ f′ slots′ ≡ resumeEntry budget k m f slots
-unfolding resumeDecided
-resume-given budget k m f slots {s} {t} passed found run put =
-    let grew = count-grew budget s m f run in
-    let n : t .count - s .count ≡ retired budget (world s m f) = omega arith in
-    rw (n, put, passed, ← found, ← run)

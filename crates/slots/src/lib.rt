@@ -1,8 +1,6 @@
 // Slots: states kept as records of 144 bytes, one after the other in a lent buffer.
 use answers::Check;
 use answers::Refusal;
-use machine::check_board;
-use machine::run_steps;
 use records::is_sound;
 use records::read_record;
 use records::write_record;
@@ -11,18 +9,12 @@ ghost use mathlib.Core.Path.{_≡_};
 ghost use Prim.Native.Nat.{_+_, _*_, _≤_};
 ghost use lib.ListN.{length};
 ghost use Rattle.records.specs.Records.{recordOf};
-ghost use Rattle.slots.specs.Slots.{slotThere, slotSet, written, writeEntry, readEntry, sheet, resumeEntry};
+ghost use Rattle.slots.specs.Slots.{slotThere, slotSet, writeOutcome, writeEntry, readEntry};
 
 // What `read_slot` answers: the state, or a refusal and no state.
 pub struct ReadBack {
     pub check: Check,
     pub state: State,
-}
-
-// What `run_slot` answers: the number retired, or a refusal.
-pub enum Resumed {
-    Retired(u64),
-    Refused(Refusal),
 }
 
 const RECORD: usize = 144;
@@ -34,17 +26,17 @@ fn is_slot(slots: &[u8], k: usize) -> bool
 }
 
 // The slot's bytes are lent on to a writer that knows one record.
-fn put(slots: &mut [u8], k: usize, s: State)
+pub fn put(slots: &mut [u8], k: usize, s: State)
     requires { ⌜ 144 * k + 144 ≤ length (now slots) ⌝ }
     ensures { λ _. ⌜ now (slots .exit) ≡ slotSet k (recordOf s) (now (slots .entry)) ⌝ }
 {
-    let at = RECORD * k;
-    write_record(&mut slots[at..at + RECORD], s);
+    let start = RECORD * k;
+    write_record(&mut slots[start..start + RECORD], s);
 }
 
 // A state into slot k. Refuses with 4 and 5.
 pub fn write_slot(slots: &mut [u8], k: usize, s: State) -> Check
-    ensures { λ r. ⌜ written r (now (slots .exit)) ≡ writeEntry k s (now (slots .entry)) ⌝ }
+    ensures { λ r. ⌜ writeOutcome r (now (slots .exit)) ≡ writeEntry k s (now (slots .entry)) ⌝ }
 {
     if !is_slot(slots, k) {
         return Check::Refused(Refusal::Slot);
@@ -78,22 +70,4 @@ pub fn read_slot(slots: &[u8], k: usize) -> ReadBack
         check: Check::Passed,
         state: read_record(part),
     }
-}
-
-// Reads slot k, runs it for at most budget steps and writes it back. Refuses with 1 to 5.
-pub fn run_slot(mem: &mut [u8], row: &mut [u8], slots: &mut [u8], k: usize, budget: u64) -> Resumed
-    ensures { λ r. ⌜ sheet r (now (mem .exit)) (now (row .exit)) (now (slots .exit)) ≡ resumeEntry budget k (now (mem .entry)) (now (row .entry)) (now (slots .entry)) ⌝ }
-{
-    if let Check::Refused(r) = check_board(mem, row) {
-        return Resumed::Refused(r);
-    }
-    let back = read_slot(slots, k);
-    let found = back.check;
-    if let Check::Refused(r) = found {
-        return Resumed::Refused(r);
-    }
-    let s = back.state;
-    let t = run_steps(s, mem, row, budget);
-    put(slots, k, t);
-    Resumed::Retired(t.count - s.count)
 }

@@ -1,14 +1,9 @@
 -- What the types say of every state that there is: its numbers fit.
-use Prim.Native.Nat.{ℕ, _^_, _<_}
+use Prim.Native.Nat.{_^_, _<_}
 use mathlib.Core.Path.{_≡_}
-use mathlib.Core.List.{List, [], _∷_}
 use lib.ListN.{length}
+use Rattle.word.specs.Bounds.{AllBelow}
 use Rattle.state.specs.declared.State.{State}
-
--- every number of the list is below b
-abbrev pub AllBelow : ℕ → List ℕ → Type 0
-AllBelow b [] = Unit {0}
-AllBelow b (v ∷ vs) = (v < b) × AllBelow b vs
 
 pub record Fits (s : State) : Type 0 where
   pub pc-fits : s .pc < 2 ^ 32

@@ -4,7 +4,11 @@ use mathlib.Core.Bool.{Bool, cond, _&&_}
 use mathlib.Core.List.{List}
 use lib.ListN.{getD, set, replicate}
 use lib.Dec.{eqb, leb}
-use Rattle.answers.specs.Stops.{stopNumber}
+use Rattle.answers.specs.Checks.{unless}
+use Rattle.answers.specs.Stops.{stopNumber, lastStop}
+use Rattle.answers.specs.declared.Check.{Check}
+use Rattle.answers.specs.declared.Check.the-variants.{Passed}
+use Rattle.answers.specs.declared.Refusal.the-variants as R
 use Rattle.answers.specs.declared.Stop.{Stop}
 use Rattle.isa.specs.declared.Reg.{Reg}
 use Rattle.state.specs.declared.State.{State}
@@ -41,4 +45,8 @@ noState = state 0 (replicate 31 0) 0 255
 
 -- a state with an odd pc or a stop number above 10 is malformed
 abbrev pub wellFormed : State → Bool
-wellFormed s = eqb (s .pc % 2) 0 && leb (s .stop) 10
+wellFormed s = eqb (s .pc % 2) 0 && leb (s .stop) lastStop
+
+-- refusal 5
+abbrev pub stateChecked : State → Check
+stateChecked s = unless (wellFormed s) R.State Passed

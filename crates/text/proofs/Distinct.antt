@@ -13,7 +13,7 @@ use Rattle.word.specs.Tables.{find}
 use Rattle.word.proofs.Bools.{and-left, and-right, is-true, holds}
 use Rattle.word.proofs.Signs.{signed-lt}
 use Rattle.ascii.specs.Ascii.{bytes}
-use Rattle.ascii.specs.Numbers.{decimal, signed}
+use Rattle.ascii.specs.Numbers.{decimal, signedDecimal}
 use Rattle.ascii.proofs.Distinct.{from, pieces, Token, one-piece, pieces-at, read, number, read-decimal, decimal-from, signed-from, number-decimal, number-signed}
 use Rattle.isa.specs.declared.Reg.{Reg}
 use Rattle.isa.specs.declared.Inst.{Inst}
@@ -21,9 +21,9 @@ use Rattle.isa.specs.declared.Inst.the-variants.{Lui, Auipc, Jal, Jalr, Branch,
 use Rattle.isa.specs.Registers.{reg}
 use Rattle.isa.specs.Operations.{partsOf}
 use Rattle.isa.specs.Encoding.{signedOk, inRange}
-use Rattle.shortest.proofs.Same.{each, by-operation}
+use Rattle.roundtrip.proofs.Same.{each, by-operation}
 use Rattle.text.specs.Names.{names, nameAt}
-use Rattle.text.specs.Text.{space, comma, parens, register, operandsOf, textOf, shortTextOf}
+use Rattle.text.specs.Text.{space, comma, parens, registerText, operandsOf, textOf, shortTextOf}
 
 -- the name is piece 0, and the operands follow
 abbrev piece : List ℕ → ℕ → List ℕ
@@ -77,14 +77,14 @@ record Reads {A : Type 0} (reading : List ℕ → A) (l : List ℕ) (v : A) : Ty
 abbrev regOf : List ℕ → Reg
 regOf l = reg (read 0 (drop 1 l))
 
-a-register : (r : Reg) → Reads regOf (register r) r
-a-register r = record { token = one-piece (register r) (decimal-from (r .number)); back = rw read-decimal }
+a-register : (r : Reg) → Reads regOf (registerText r) r
+a-register r = record { token = one-piece (registerText r) (decimal-from (r .number)); back = rw read-decimal }
 
 a-field : (n : ℕ) → Reads number (decimal n) n
 a-field n = record { token = one-piece (decimal n) (decimal-from n); back = number-decimal n }
 
-an-immediate : (k n : ℕ) → T (leb 1 k) → T (leb k 32) → T (signedOk k n) → Reads number (signed n) n
-an-immediate k n p q t = record { token = one-piece (signed n) (signed-from n); back = number-signed n (signed-lt k n (leb→le 1 k p) (leb→le k 32 q) (is-true _ t)) }
+an-immediate : (k n : ℕ) → T (leb 1 k) → T (leb k 32) → T (signedOk k n) → Reads number (signedDecimal n) n
+an-immediate k n p q t = record { token = one-piece (signedDecimal n) (signed-from n); back = number-signed n (signed-lt k n (leb→le 1 k p) (leb→le k 32 q) (is-true _ t)) }
 
 -- the forms of operands after a name, and what an instruction is made of
 module _ {A B : Type 0} {n : List ℕ} (name : Token n) {f : List ℕ → A} {a : List ℕ} {x : A} (p : Reads f a x) {g : List ℕ → B} {b : List ℕ} {y : B} (q : Reads g b y) where

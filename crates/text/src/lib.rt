@@ -10,10 +10,10 @@ ghost use mathlib.Core.Path.{_≡_};
 ghost use mathlib.Core.List.{_∷_, _++_};
 ghost use Prim.Native.Nat.{_+_, _≤_};
 ghost use lib.ListN.{length, getD, drop};
-ghost use Rattle.ascii.specs.Numbers.{signed};
+ghost use Rattle.ascii.specs.Numbers.{signedDecimal};
 ghost use Rattle.ascii.specs.Rooms.{Wrote};
 ghost use Rattle.text.specs.Names.{nameAt};
-ghost use Rattle.text.specs.Text.{space, comma, parens, register, shown, operandsOf, textOf, shortTextOf};
+ghost use Rattle.text.specs.Text.{space, comma, parens, registerText, shown, operandsOf, textOf, shortTextOf};
 
 // An operand as its text shows it: a register, an unsigned number, or a number in two's complement.
 pub enum Operand {
@@ -81,8 +81,8 @@ fn put_operand(room: &mut [u8], at: usize, before: u8, operand: Operand) -> usiz
 
 // " x6,524288"
 fn put_two(room: &mut [u8], at: usize, first: Reg, last: Operand) -> usize
-    requires { ⌜ at + length (space (register first) ++ comma (shown last)) ≤ length (now room) ⌝ }
-    ensures { λ r. ⌜ Wrote (now (room .entry)) at (space (register first) ++ comma (shown last)) (now (room .exit)) r ⌝ }
+    requires { ⌜ at + length (space (registerText first) ++ comma (shown last)) ≤ length (now room) ⌝ }
+    ensures { λ r. ⌜ Wrote (now (room .entry)) at (space (registerText first) ++ comma (shown last)) (now (room .exit)) r ⌝ }
 {
     let next = put_operand(room, at, b' ', Operand::Register(first));
     put_operand(room, next, b',', last)
@@ -90,8 +90,8 @@ fn put_two(room: &mut [u8], at: usize, first: Reg, last: Operand) -> usize
 
 // " x5,x6,31"
 fn put_three(room: &mut [u8], at: usize, first: Reg, second: Reg, last: Operand) -> usize
-    requires { ⌜ at + length (space (register first) ++ comma (register second) ++ comma (shown last)) ≤ length (now room) ⌝ }
-    ensures { λ r. ⌜ Wrote (now (room .entry)) at (space (register first) ++ comma (register second) ++ comma (shown last)) (now (room .exit)) r ⌝ }
+    requires { ⌜ at + length (space (registerText first) ++ comma (registerText second) ++ comma (shown last)) ≤ length (now room) ⌝ }
+    ensures { λ r. ⌜ Wrote (now (room .entry)) at (space (registerText first) ++ comma (registerText second) ++ comma (shown last)) (now (room .exit)) r ⌝ }
 {
     let next = put_two(room, at, first, Operand::Register(second));
     put_operand(room, next, b',', last)
@@ -99,8 +99,8 @@ fn put_three(room: &mut [u8], at: usize, first: Reg, second: Reg, last: Operand)
 
 // " x2,-8(x1)"
 fn put_address(room: &mut [u8], at: usize, first: Reg, offset: u32, base: Reg) -> usize
-    requires { ⌜ at + length (space (register first) ++ comma (signed offset) ++ parens (register base)) ≤ length (now room) ⌝ }
-    ensures { λ r. ⌜ Wrote (now (room .entry)) at (space (register first) ++ comma (signed offset) ++ parens (register base)) (now (room .exit)) r ⌝ }
+    requires { ⌜ at + length (space (registerText first) ++ comma (signedDecimal offset) ++ parens (registerText base)) ≤ length (now room) ⌝ }
+    ensures { λ r. ⌜ Wrote (now (room .entry)) at (space (registerText first) ++ comma (signedDecimal offset) ++ parens (registerText base)) (now (room .exit)) r ⌝ }
 {
     let bracket = put_two(room, at, first, Operand::Signed(offset));
     let close = put_operand(room, bracket, b'(', Operand::Register(base));

@@ -3,3 +3,4 @@ pub mod Bools
 pub mod Scatter
 pub mod Sweep
 pub mod Rows
+pub mod Bounds

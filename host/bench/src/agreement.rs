@@ -1,25 +1,6 @@
 //! The plain C interpreter against the proved emulator, on short runs of random programs.
 use crate::plain;
-
-/// xorshift, with a fixed seed: every run of the test is the same.
-struct Random(u64);
-
-impl Random {
-    fn next(&mut self) -> u64 {
-        self.0 ^= self.0 << 13;
-        self.0 ^= self.0 >> 7;
-        self.0 ^= self.0 << 17;
-        self.0
-    }
-
-    fn below(&mut self, n: u64) -> u64 {
-        self.next() % n
-    }
-
-    fn pick<T: Copy>(&mut self, from: &[T]) -> T {
-        from[self.below(from.len() as u64) as usize]
-    }
-}
+use testing::Random;
 
 /// Mostly legal and near: random bits with an opcode, a sound funct7, a short way to go.
 fn word(random: &mut Random) -> u32 {
@@ -27,7 +8,7 @@ fn word(random: &mut Random) -> u32 {
         0x37, 0x17, 0x6f, 0x67, 0x63, 0x63, 0x03, 0x03, 0x23, 0x23, 0x13, 0x13, 0x13, 0x33, 0x33,
         0x33,
     ];
-    let bits = random.next() as u32;
+    let bits = random.word();
     if random.below(16) == 0 {
         return random.pick(&[bits, bits & 0xfff0_0f8f | 0x0f, 0x73, 0x0010_0073]);
     }
@@ -44,7 +25,7 @@ fn word(random: &mut Random) -> u32 {
 
 fn half(random: &mut Random) -> u16 {
     loop {
-        let half = random.next() as u16;
+        let half = random.word() as u16;
         if second::expand(half).is_ok() || random.below(64) == 0 {
             return half;
         }
@@ -72,7 +53,7 @@ fn row(random: &mut Random) -> Vec<u8> {
     let mut row = vec![0; phuyurik::ROW];
     for record in row.chunks_exact_mut(8) {
         if random.below(4) == 0 {
-            record[..4].copy_from_slice(&(random.next() as u32).to_le_bytes());
+            record[..4].copy_from_slice(&(random.word()).to_le_bytes());
             record[4] = 1;
         }
     }
@@ -84,13 +65,13 @@ fn value(random: &mut Random, length: usize) -> u32 {
     let inside = random.below(length as u64 + 4) as u32;
     let window = 0x8000_0000 + random.below(260) as u32;
     let edge = random.pick(&[0, 1, u32::MAX, 0x7fff_ffff, 0x8000_0000]);
-    let any = random.next() as u32;
+    let any = random.word();
     random.pick(&[inside, inside & !3, inside & !3, window & !3, edge, any])
 }
 
 fn state(random: &mut Random, length: usize) -> phuyurik::State {
     let near = random.below(length as u64 + 1) as u32;
-    let far = random.next() as u32;
+    let far = random.word();
     let low = random.below(1000);
     let full = u64::MAX - random.below(4);
     let mostly = |random: &mut Random| random.below(32) > 0;
@@ -129,7 +110,7 @@ fn compare(mut s: phuyurik::State, memory: &[u8], row: &[u8], budget: u64) -> (u
 
 #[test]
 fn random_programs_end_alike() {
-    let mut random = Random(88_172_645_463_325_252);
+    let mut random = Random::new(1);
     let (mut stops, mut steps) = ([0; 11], 0);
     for _ in 0..40_000 {
         let memory = program(&mut random);
@@ -146,13 +127,13 @@ fn random_programs_end_alike() {
 /// Each halfword once, with what follows it: one step, from registers that are mostly addresses.
 #[test]
 fn every_halfword_steps_alike() {
-    let mut random = Random(88_172_645_463_325_252);
+    let mut random = Random::new(1);
     let row = row(&mut random);
     let mut retired = 0;
     for half in 0..=u16::MAX {
         let mut memory = [0; 256];
         memory[..2].copy_from_slice(&half.to_le_bytes());
-        memory[2..4].copy_from_slice(&(random.next() as u16 & 0x41ff).to_le_bytes());
+        memory[2..4].copy_from_slice(&(random.word() as u16 & 0x41ff).to_le_bytes());
         let s = phuyurik::State {
             pc: 0,
             x: [(); 31].map(|()| value(&mut random, 128) & !3),

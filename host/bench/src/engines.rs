@@ -1,6 +1,7 @@
 //! The three engines, made to look alike: an image in, the end of its run and the time out.
 use crate::plain;
 use crate::stopwatch::Stopwatch;
+use phuyurik::State;
 use std::time::Duration;
 
 /// No workload comes near it.
@@ -28,10 +29,7 @@ impl Engine {
 /// Everything that a run leaves behind.
 #[derive(Clone, Debug, PartialEq, Eq)]
 pub struct End {
-    pub pc: u32,
-    pub x: [u32; 31],
-    pub count: u64,
-    pub stop: u8,
+    pub state: State,
     pub retired: u64,
     pub memory: Vec<u8>,
     pub row: Vec<u8>,
@@ -40,64 +38,54 @@ pub struct End {
 /// Runs the image from the fresh state on a blank row. The time is the
 /// processor time of the run alone: not that of copying the image.
 pub fn run(engine: Engine, image: &[u8]) -> (End, Duration) {
-    let memory = image.to_vec();
-    let row = vec![0; phuyurik::ROW];
-    match engine {
-        Engine::Phuyurik => run_phuyurik(memory, row),
-        Engine::Second => run_second(memory, row),
-        Engine::PlainC => run_plain(memory, row),
-    }
-}
-
-fn run_phuyurik(mut memory: Vec<u8>, mut row: Vec<u8>) -> (End, Duration) {
-    let mut s = phuyurik::State::fresh();
-    let watch = Stopwatch::start();
-    let retired = phuyurik::run(&mut s, &mut memory, &mut row, BUDGET);
-    let time = watch.time();
-    let end = End {
-        pc: s.pc,
-        x: s.x,
-        count: s.count,
-        stop: s.stop,
-        retired: retired.expect("sound arguments"),
-        memory,
-        row,
+    let (mut memory, mut row) = (image.to_vec(), vec![0; phuyurik::ROW]);
+    let run = match engine {
+        Engine::Phuyurik => run_phuyurik,
+        Engine::Second => run_second,
+        Engine::PlainC => run_plain,
     };
-    (end, time)
-}
-
-fn run_second(mut memory: Vec<u8>, mut row: Vec<u8>) -> (End, Duration) {
-    let mut s = second::State::fresh();
-    let watch = Stopwatch::start();
-    let retired = second::run(&mut s, &mut memory, &mut row, BUDGET);
-    let time = watch.time();
+    let (state, retired, time) = run(&mut memory, &mut row);
     let end = End {
-        pc: s.pc,
-        x: s.x,
-        count: s.count,
-        stop: s.stop,
-        retired: retired.expect("sound arguments"),
-        memory,
-        row,
-    };
-    (end, time)
-}
-
-fn run_plain(mut memory: Vec<u8>, mut row: Vec<u8>) -> (End, Duration) {
-    let mut s = plain::State::fresh();
-    let watch = Stopwatch::start();
-    let retired = plain::run(&mut s, &mut memory, &mut row, BUDGET);
-    let time = watch.time();
-    let mut x = [0; 31];
-    x.copy_from_slice(&s.x[1..]);
-    let end = End {
-        pc: s.pc,
-        x,
-        count: s.count,
-        stop: s.stop,
+        state,
         retired,
         memory,
         row,
     };
     (end, time)
+}
+
+fn timed<T>(work: impl FnOnce() -> T) -> (T, Duration) {
+    let watch = Stopwatch::start();
+    let answer = work();
+    (answer, watch.time())
+}
+
+fn run_phuyurik(memory: &mut [u8], row: &mut [u8]) -> (State, u64, Duration) {
+    let mut s = State::fresh();
+    let (retired, time) = timed(|| phuyurik::run(&mut s, memory, row, BUDGET));
+    (s, retired.expect("sound arguments"), time)
+}
+
+fn run_second(memory: &mut [u8], row: &mut [u8]) -> (State, u64, Duration) {
+    let mut s = second::State::fresh();
+    let (retired, time) = timed(|| second::run(&mut s, memory, row, BUDGET));
+    let state = State {
+        pc: s.pc,
+        x: s.x,
+        count: s.count,
+        stop: s.stop,
+    };
+    (state, retired.expect("sound arguments"), time)
+}
+
+fn run_plain(memory: &mut [u8], row: &mut [u8]) -> (State, u64, Duration) {
+    let mut s = plain::State::fresh();
+    let (retired, time) = timed(|| plain::run(&mut s, memory, row, BUDGET));
+    let state = State {
+        pc: s.pc,
+        x: s.x[1..].try_into().expect("31 registers"),
+        count: s.count,
+        stop: s.stop,
+    };
+    (state, retired, time)
 }

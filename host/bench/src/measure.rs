@@ -30,22 +30,23 @@ pub fn measure(workload: &Workload, repeats: u32) -> Result<Measured, String> {
         }
     }
     let end = agreed.ok_or("nothing was run")?;
-    if end.stop != phuyurik::Stop::Ecall.number() {
-        return Err(format!("{}: stop {}, not ecall", workload.name, end.stop));
+    let stop = end.state.stop;
+    if stop != phuyurik::Stop::Ecall.number() {
+        return Err(format!("{}: stop {stop}, not ecall", workload.name));
     }
     Ok(Measured {
         name: workload.name,
-        steps: end.count,
+        steps: end.state.count,
         best,
     })
 }
 
 fn difference(a: &End, b: &End) -> Option<&'static str> {
     [
-        (a.pc != b.pc, "pc"),
-        (a.x != b.x, "register"),
-        (a.count != b.count, "count"),
-        (a.stop != b.stop, "stop"),
+        (a.state.pc != b.state.pc, "pc"),
+        (a.state.x != b.state.x, "register"),
+        (a.state.count != b.state.count, "count"),
+        (a.state.stop != b.state.stop, "stop"),
         (a.retired != b.retired, "answer"),
         (a.memory != b.memory, "memory"),
         (a.row != b.row, "row"),
@@ -66,10 +67,10 @@ mod tests {
         let (end, _) = engines::run(Engine::PlainC, &[0x73, 0, 0, 0]);
         assert_eq!(difference(&end, &end), None);
         let changes: [(Change, &str); 7] = [
-            (|e| e.pc += 2, "pc"),
-            (|e| e.x[30] += 1, "register"),
-            (|e| e.count += 1, "count"),
-            (|e| e.stop += 1, "stop"),
+            (|e| e.state.pc += 2, "pc"),
+            (|e| e.state.x[30] += 1, "register"),
+            (|e| e.state.count += 1, "count"),
+            (|e| e.state.stop += 1, "stop"),
             (|e| e.retired += 1, "answer"),
             (|e| e.memory[3] += 1, "memory"),
             (|e| e.row[511] += 1, "row"),

@@ -20,7 +20,7 @@ fn end(name: &str) -> End {
     let [a, b, c] = ENGINES.map(|engine| engines::run(engine, workload.image).0);
     assert_eq!(a, b);
     assert_eq!(a, c);
-    assert_eq!(a.stop, 1);
+    assert_eq!(a.state.stop, 1);
     a
 }
 
@@ -35,12 +35,12 @@ fn insertion_sort() {
             sum = sum.wrapping_mul(31).wrapping_add(word as u32);
         }
     }
-    assert_eq!(end("insertion_sort").x[A0], sum);
+    assert_eq!(end("insertion_sort").state.x[A0], sum);
 }
 
 #[test]
 fn insertion_sort_has_the_figure_word_for_word() {
-    let figure = include_bytes!("../../../crates/list_sort/stdin");
+    let figure = include_bytes!("../../../crates/listings/data/sort");
     let image = WORKLOADS[0].image;
     assert!(image.windows(figure.len()).any(|part| part == figure));
 }
@@ -58,7 +58,7 @@ fn crc() {
             remainder = (remainder << 1) ^ (carry * 0x04C1_1DB7);
         }
     }
-    assert_eq!(end("crc").x[A0], !remainder.reverse_bits());
+    assert_eq!(end("crc").state.x[A0], !remainder.reverse_bits());
 }
 
 #[test]
@@ -76,7 +76,7 @@ fn average() {
             total = total.wrapping_add(mean as u32);
         }
     }
-    assert_eq!(end("average").x[A0], total);
+    assert_eq!(end("average").state.x[A0], total);
 }
 
 #[test]
@@ -91,7 +91,7 @@ fn binary_search() {
         }
     }
     let end = end("binary_search");
-    assert_eq!((end.x[A0], end.x[A1]), (places, found));
+    assert_eq!((end.state.x[A0], end.state.x[A1]), (places, found));
 }
 
 type Matrix = [[u32; 3]; 3];
@@ -110,7 +110,7 @@ fn matrix() {
         first = product(first, second);
     }
     let sum = first.concat().into_iter().fold(0, u32::wrapping_add);
-    assert_eq!(end("matrix").x[A0], sum);
+    assert_eq!(end("matrix").state.x[A0], sum);
 }
 
 /// The mean of the readings is 2100.4, so -52 counts and -17 steps of 3 are missing: 47 in six bits.
@@ -120,7 +120,7 @@ fn voltage_trim() {
     for engine in ENGINES {
         let end = engines::run(engine, image).0;
         assert_eq!(
-            (end.stop, &end.row[..8]),
+            (end.state.stop, &end.row[..8]),
             (1, &[47, 1, 0, 0, 1, 0, 0, 0][..])
         );
         assert_eq!(end.row[8..], [0; 504]);
@@ -135,7 +135,7 @@ fn voltage_trim_of_noisy_readings() {
     image[last..].copy_from_slice(&2400_u16.to_le_bytes());
     for engine in ENGINES {
         let end = engines::run(engine, &image).0;
-        assert_eq!((end.stop, end.row), (2, vec![0; 512]));
+        assert_eq!((end.state.stop, end.row), (2, vec![0; 512]));
     }
 }
 

@@ -5,7 +5,6 @@
 mod lent;
 mod options;
 mod program;
-mod random;
 mod refusals;
 mod runs;
 mod scene;
@@ -14,11 +13,11 @@ mod texts;
 mod words;
 
 use options::{Options, HELP};
-use random::{mix, Random};
 use std::panic::{catch_unwind, AssertUnwindSafe};
 use std::process::ExitCode;
 use std::time::{Duration, Instant, SystemTime};
 use tally::{Check, Difference, Tally};
+use testing::{mix, Random};
 
 const SEED: u64 = 20_191_213;
 /// How often a long comparison tells how far it is.
@@ -112,7 +111,7 @@ fn everything_once(tally: &mut Tally) -> Check {
 }
 
 fn one_round(tally: &mut Tally, seed: u64) -> Check {
-    let mut random = Random::new(seed);
+    let mut random = Random::new(mix(seed));
     words::round(tally, &mut random)?;
     runs::round(tally, &mut random)?;
     refusals::round(tally, &mut random)?;

@@ -6,7 +6,7 @@ compare: both emulators on random and hostile inputs
 usage: compare [--seed N] [--seconds N] [--rounds N]
 
   --seed N     the first round's seed, from which those of the others come (20191213)
-  --seconds N  begins rounds for so long (60); 0: until a difference, with a seed from the clock
+  --seconds N  begins rounds for so long (30); 0: until a difference, with a seed from the clock
   --rounds N   so many rounds, whatever the time: replays a difference
   --help       this text
 
@@ -24,7 +24,7 @@ impl Options {
     pub fn read(mut words: impl Iterator<Item = String>) -> Result<Option<Options>, String> {
         let mut options = Options {
             seed: None,
-            seconds: 60,
+            seconds: 30,
             rounds: None,
         };
         while let Some(word) = words.next() {
@@ -57,7 +57,7 @@ mod tests {
         let Ok(Some(plain)) = read("") else {
             panic!("no words are allowed")
         };
-        assert_eq!((plain.seed, plain.seconds, plain.rounds), (None, 60, None));
+        assert_eq!((plain.seed, plain.seconds, plain.rounds), (None, 30, None));
         let Ok(Some(given)) = read("--seed 7 --seconds 0 --rounds 1") else {
             panic!("all options are allowed")
         };

@@ -1,8 +1,8 @@
 //! Random programs: mostly legal instructions of both lengths, short jumps, accesses near the
 //! ends of memory and in the window, and stores over code.
 
-use crate::random::Random;
 use second::{op, Inst};
+use testing::Random;
 
 /// Registers that programs use as addresses and seldom write to.
 pub const POINTERS: [u32; 6] = [2, 8, 9, 10, 14, 31];

@@ -1,10 +1,11 @@
 //! Malformed inputs: for each entry every set of faults that it can meet, so that the order of
 //! refusals is compared. The paper's answer is known beforehand: the lowest number.
 
-use crate::random::Random;
-use crate::scene::{self, Entry, Scene, RECORD};
+use crate::scene::{self, Entry, Scene};
 use crate::tally::{Check, Difference, Tally};
 use crate::{program, texts, words};
+use phuyurik::RECORD;
+use testing::Random;
 
 pub fn round(tally: &mut Tally, random: &mut Random) -> Check {
     let entries: [(Entry, &[u32]); 5] = [

@@ -1,9 +1,10 @@
 //! Steps and runs: one operation on hostile values, walks, whole runs, runs cut into pieces.
 
-use crate::random::Random;
-use crate::scene::{self, compare, Entry, Scene, RECORD};
+use crate::scene::{self, compare, Entry, Scene};
 use crate::tally::{Check, Difference, Tally};
+use phuyurik::RECORD;
 use second::op;
+use testing::Random;
 
 /// Values at which slips of arithmetic show.
 const VALUES: [u32; 14] = [

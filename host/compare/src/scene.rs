@@ -2,12 +2,10 @@
 
 use crate::lent::Lent;
 use crate::program::{self, Temper};
-use crate::random::Random;
 use crate::tally::{first_other, Difference, Tally};
+use phuyurik::{RECORD, ROW};
 use second::State;
-
-pub const ROW: usize = 512;
-pub const RECORD: usize = 144;
+use testing::Random;
 
 #[derive(Clone, PartialEq, Eq)]
 pub struct Scene {

@@ -2,10 +2,10 @@
 
 use crate::lent::Lent;
 use crate::program::{self, Temper};
-use crate::random::Random;
 use crate::tally::{Check, Tally};
 use crate::words;
 use second::Inst;
+use testing::Random;
 
 pub fn round(tally: &mut Tally, random: &mut Random) -> Check {
     for _ in 0..500 {
@@ -36,60 +36,42 @@ pub fn all_halfwords(tally: &mut Tally) -> Check {
 }
 
 pub fn word(tally: &mut Tally, bits: u32, room: &[u8]) -> Check {
-    let (mut proved, mut second) = (Lent::new(room, room.len()), room.to_vec());
-    let answer = phuyurik::text_of_word(bits, proved.content());
-    let other = second::text_of_word(bits, &mut second);
     let call = || format!("text_of_word({bits:#010x}) in a room of {}", room.len());
-    rooms(
-        tally,
-        call,
-        (answer, other),
-        (&proved.back()?, &second),
-        room,
-    )
+    let proved = |room: &mut [u8]| phuyurik::text_of_word(bits, room);
+    let second = |room: &mut [u8]| second::text_of_word(bits, room);
+    text(tally, call, room, proved, second)
 }
 
 pub fn half(tally: &mut Tally, bits: u16, room: &[u8]) -> Check {
-    let (mut proved, mut second) = (Lent::new(room, room.len()), room.to_vec());
-    let answer = phuyurik::text_of_half(bits, proved.content());
-    let other = second::text_of_half(bits, &mut second);
     let call = || format!("text_of_half({bits:#06x}) in a room of {}", room.len());
-    rooms(
-        tally,
-        call,
-        (answer, other),
-        (&proved.back()?, &second),
-        room,
-    )
+    let proved = |room: &mut [u8]| phuyurik::text_of_half(bits, room);
+    let second = |room: &mut [u8]| second::text_of_half(bits, room);
+    text(tally, call, room, proved, second)
 }
 
 pub fn instruction(tally: &mut Tally, inst: Inst, room: &[u8]) -> Check {
-    let (mut proved, mut second) = (Lent::new(room, room.len()), room.to_vec());
-    let answer = phuyurik::text_of(words::to_proved(inst), proved.content());
-    let other = second::text_of(inst, &mut second);
     let call = || format!("text_of({inst:x?}) in a room of {}", room.len());
-    rooms(
-        tally,
-        call,
-        (answer, other),
-        (&proved.back()?, &second),
-        room,
-    )
+    let proved = |room: &mut [u8]| phuyurik::text_of(words::to_proved(inst), room);
+    let second = |room: &mut [u8]| second::text_of(inst, room);
+    text(tally, call, room, proved, second)
 }
 
-/// Compares two answers and the rooms as they were left; `before` is what a refusal must leave.
-fn rooms(
+/// Compares two answers and the rooms as they were left; a refusal must leave the room as it was.
+fn text(
     tally: &mut Tally,
     call: impl Fn() -> String,
-    answers: (Result<usize, phuyurik::Refusal>, Result<usize, u32>),
-    rooms: (&[u8], &[u8]),
-    before: &[u8],
+    room: &[u8],
+    proved: impl FnOnce(&mut [u8]) -> Result<usize, phuyurik::Refusal>,
+    second: impl FnOnce(&mut [u8]) -> Result<usize, u32>,
 ) -> Check {
-    let refused = answers.1.is_err();
-    tally.same_answer(&call, answers.0, answers.1)?;
-    tally.same(&call, rooms.0, rooms.1)?;
+    let (mut lent, mut other) = (Lent::new(room, room.len()), room.to_vec());
+    let (answer, second) = (proved(lent.content()), second(&mut other));
+    let left = lent.back()?;
+    let refused = second.is_err();
+    tally.same_answer(&call, answer, second)?;
+    tally.same(&call, &left, &other)?;
     if refused {
-        tally.same(|| format!("{}, refused", call()), rooms.0, before)?;
+        tally.same(|| format!("{}, refused", call()), &left[..], room)?;
     }
     Ok(())
 }

@@ -1,10 +1,10 @@
 //! Bits and instructions: chart, decode, expand, encode, shorten.
 
 use crate::program;
-use crate::random::Random;
 use crate::tally::{Check, Tally};
 use phuyurik::Instruction;
 use second::Inst;
+use testing::Random;
 
 pub fn to_proved(i: Inst) -> Instruction {
     Instruction {

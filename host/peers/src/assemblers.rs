@@ -7,12 +7,13 @@
 use crate::disassemblers::text_of;
 use crate::scope::{ShortGround, SHORT_GROUNDS};
 use crate::tally::Tally;
-use crate::tools::{read, succeed, Scratch, AS, LLVM_MC, OBJCOPY};
+use crate::tools::{read, succeed, AS, LLVM_MC, OBJCOPY};
 use crate::words::Bits;
 use std::process::Command;
+use testing::Folder;
 
 /// The bits that a peer makes of our texts; whether it may shorten them.
-pub type Maker = fn(&Scratch, &[String], bool) -> Vec<Bits>;
+pub type Maker = fn(&Folder, &[String], bool) -> Vec<Bits>;
 
 const BRANCHES: [&str; 6] = ["beq", "bne", "blt", "bge", "bltu", "bgeu"];
 
@@ -47,9 +48,9 @@ fn source(texts: &[String], short: bool, spelled: fn(&str) -> String) -> String 
     format!(".option {option}\n") + &texts.iter().map(line).collect::<String>()
 }
 
-pub fn with_gnu(scratch: &Scratch, texts: &[String], short: bool) -> Vec<Bits> {
-    let input = scratch.write("gnu.s", source(texts, short, spelled_for_gnu).as_bytes());
-    let (object, image) = (scratch.file("gnu.o"), scratch.file("gnu.image"));
+pub fn with_gnu(folder: &Folder, texts: &[String], short: bool) -> Vec<Bits> {
+    let input = folder.write("gnu.s", source(texts, short, spelled_for_gnu).as_bytes());
+    let (object, image) = (folder.file("gnu.o"), folder.file("gnu.image"));
     let mut assemble = Command::new(AS);
     assemble.args(["-march=rv32imc", "-mabi=ilp32", "-mno-relax"]);
     succeed(assemble.arg(input).arg("-o").arg(&object));
@@ -73,9 +74,9 @@ pub fn with_gnu(scratch: &Scratch, texts: &[String], short: bool) -> Vec<Bits> {
     made
 }
 
-pub fn with_llvm(scratch: &Scratch, texts: &[String], short: bool) -> Vec<Bits> {
+pub fn with_llvm(folder: &Folder, texts: &[String], short: bool) -> Vec<Bits> {
     let source = source(texts, short, str::to_string);
-    let input = scratch.write("llvm.s", source.as_bytes());
+    let input = folder.write("llvm.s", source.as_bytes());
     let mut command = Command::new(LLVM_MC);
     command.args(["--triple=riscv32", "--mattr=+m,+c", "--show-encoding"]);
     let text = succeed(command.arg(input));
@@ -112,7 +113,7 @@ fn ours(bits: Bits, short: bool) -> Result<(Bits, String), phuyurik::Refusal> {
 }
 
 /// All must be legal; a peer's bits of our text must be our bits.
-pub fn compare(name: &str, maker: Maker, scratch: &Scratch, all: &[Bits], short: bool) -> Tally {
+pub fn compare(name: &str, maker: Maker, folder: &Folder, all: &[Bits], short: bool) -> Tally {
     let mut tally = Tally::new(name);
     let mut pairs = Vec::new();
     for bits in all {
@@ -122,7 +123,7 @@ pub fn compare(name: &str, maker: Maker, scratch: &Scratch, all: &[Bits], short:
         }
     }
     let texts: Vec<String> = pairs.iter().map(|(_, text)| text.clone()).collect();
-    let made = maker(scratch, &texts, short);
+    let made = maker(folder, &texts, short);
     if made.len() != pairs.len() {
         tally.differs(format!("{} answers to {} texts", made.len(), pairs.len()));
     }

@@ -2,20 +2,21 @@
 use crate::scope::{is_excluded, is_no_instruction, Ground, GROUNDS};
 use crate::spelling::{read, Shown};
 use crate::tally::Tally;
-use crate::tools::{run, succeed, Scratch, LLVM_MC, OBJDUMP};
+use crate::tools::{run, succeed, LLVM_MC, OBJDUMP};
 use crate::words::Bits;
 use std::collections::{HashMap, HashSet};
 use std::process::Command;
+use testing::Folder;
 
 /// What a peer shows for each; nothing where it says that there is no instruction.
-pub type Reader = fn(&Scratch, &[Bits]) -> Vec<Option<Shown>>;
+pub type Reader = fn(&Folder, &[Bits]) -> Vec<Option<Shown>>;
 
 /// No instruction is longer than 22 bytes for objdump; after one that it may take for such, as many
 /// short instructions that do nothing keep the next in step.
 const LONGEST: usize = 22;
 const NOTHING: [u8; 2] = [0x01, 0x00];
 
-pub fn with_objdump(scratch: &Scratch, all: &[Bits]) -> Vec<Option<Shown>> {
+pub fn with_objdump(folder: &Folder, all: &[Bits]) -> Vec<Option<Shown>> {
     let mut image = Vec::new();
     let mut addresses = Vec::new();
     for bits in all {
@@ -25,7 +26,7 @@ pub fn with_objdump(scratch: &Scratch, all: &[Bits]) -> Vec<Option<Shown>> {
             image.extend(NOTHING.repeat(LONGEST / NOTHING.len()));
         }
     }
-    let path = scratch.write("image", &image);
+    let path = folder.write("image", &image);
     let mut command = Command::new(OBJDUMP);
     command.args(["-z", "-D", "-b", "binary", "-m", "riscv:rv32"]);
     let text = succeed(command.args(["-M", "no-aliases,numeric"]).arg(path));
@@ -47,13 +48,13 @@ fn line_of_objdump(line: &str) -> Option<(u32, Shown)> {
     Some((address, shown.with_offset_from(address)))
 }
 
-pub fn with_llvm(scratch: &Scratch, all: &[Bits]) -> Vec<Option<Shown>> {
+pub fn with_llvm(folder: &Folder, all: &[Bits]) -> Vec<Option<Shown>> {
     let mut source = String::new();
     for bits in all {
         let bytes: Vec<String> = bits.bytes().iter().map(|b| format!("0x{b:02x}")).collect();
         source += &format!("[{}]\n", bytes.join(" "));
     }
-    let path = scratch.write("bytes", source.as_bytes());
+    let path = folder.write("bytes", source.as_bytes());
     let mut command = Command::new(LLVM_MC);
     command.args(["--disassemble", "--triple=riscv32", "--mattr=+m,+c"]);
     let output = run(command
@@ -99,9 +100,9 @@ pub fn text_of(bits: Bits) -> Option<String> {
     }
 }
 
-pub fn compare(name: &str, reader: Reader, scratch: &Scratch, all: &[Bits]) -> Tally {
+pub fn compare(name: &str, reader: Reader, folder: &Folder, all: &[Bits]) -> Tally {
     let mut tally = Tally::new(name);
-    for (bits, shown) in all.iter().zip(reader(scratch, all)) {
+    for (bits, shown) in all.iter().zip(reader(folder, all)) {
         judge(&mut tally, *bits, shown);
     }
     tally

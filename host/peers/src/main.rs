@@ -14,8 +14,9 @@ use assemblers::Maker;
 use disassemblers::Reader;
 use std::process::ExitCode;
 use tally::Tally;
-use tools::{version, Scratch, AS, GCC, LLVM_MC, OBJCOPY, OBJDUMP, QEMU};
-use words::{Bits, Random};
+use testing::{Folder, Random};
+use tools::{version, AS, GCC, LLVM_MC, OBJCOPY, OBJDUMP, QEMU};
+use words::Bits;
 
 fn seed() -> Option<u64> {
     let arguments: Vec<String> = std::env::args().skip(1).collect();
@@ -39,8 +40,8 @@ fn are_there(comparison: &str, programs: &[&str]) -> bool {
     missing.is_empty()
 }
 
-fn texts(seed: u64, scratch: &Scratch) -> Vec<Tally> {
-    let mut random = Random(seed);
+fn texts(seed: u64, folder: &Folder) -> Vec<Tally> {
+    let mut random = Random::new(seed);
     let samples = [
         ("halfwords", words::all_halves()),
         ("words", words::of_each_operation(&mut random, 4400)),
@@ -57,15 +58,15 @@ fn texts(seed: u64, scratch: &Scratch) -> Vec<Tally> {
         if are_there(peer, &[tool]) {
             for (sample, all) in &samples {
                 let name = format!("{peer}, {sample}");
-                tallies.push(disassemblers::compare(&name, reader, scratch, all));
+                tallies.push(disassemblers::compare(&name, reader, folder, all));
             }
         }
     }
     tallies
 }
 
-fn encodings(seed: u64, scratch: &Scratch) -> Vec<Tally> {
-    let mut words = words::of_each_operation(&mut Random(!seed), 1000);
+fn encodings(seed: u64, folder: &Folder) -> Vec<Tally> {
+    let mut words = words::of_each_operation(&mut Random::new(!seed), 1000);
     words.extend(words::plain_fences());
     let is_legal =
         |bits: &Bits| matches!(bits, Bits::Half(half) if phuyurik::expand(*half).is_ok());
@@ -85,19 +86,19 @@ fn encodings(seed: u64, scratch: &Scratch) -> Vec<Tally> {
         if are_there(peer, tools) {
             for (sample, all, short) in samples {
                 let name = format!("{peer}, {sample}");
-                tallies.push(assemblers::compare(&name, maker, scratch, all, short));
+                tallies.push(assemblers::compare(&name, maker, folder, all, short));
             }
         }
     }
     tallies
 }
 
-fn results(seed: u64, scratch: &Scratch) -> Vec<Tally> {
+fn results(seed: u64, folder: &Folder) -> Vec<Tally> {
     if !are_there("results", &[GCC, OBJCOPY, QEMU]) {
         return Vec::new();
     }
-    let programs = results::compare_programs(scratch);
-    vec![programs, results::compare_sequences(seed, scratch)]
+    let programs = results::compare_programs(folder);
+    vec![programs, results::compare_sequences(seed, folder)]
 }
 
 fn print_sum(tallies: &[Tally]) -> usize {
@@ -115,10 +116,10 @@ fn main() -> ExitCode {
         eprintln!("use: peers [--seed N]");
         return ExitCode::from(2);
     };
-    let scratch = Scratch::new();
-    let mut tallies = texts(seed, &scratch);
-    tallies.extend(encodings(seed, &scratch));
-    tallies.extend(results(seed, &scratch));
+    let folder = Folder::new();
+    let mut tallies = texts(seed, &folder);
+    tallies.extend(encodings(seed, &folder));
+    tallies.extend(results(seed, &folder));
     if tallies.is_empty() {
         println!("peers: nothing to compare with");
         return ExitCode::from(2);

@@ -5,10 +5,11 @@
 //! `ecall`, and the bytes that a1 and a2 name in its memory are compared with what qemu wrote.
 use crate::sequences::{program, COUNT};
 use crate::tally::Tally;
-use crate::tools::{read, run, succeed, Scratch, GCC, OBJCOPY, QEMU};
+use crate::tools::{read, run, succeed, GCC, OBJCOPY, QEMU};
 use phuyurik::{State, Stop, LONGEST_MEMORY, ROW};
 use std::path::{Path, PathBuf};
 use std::process::Command;
+use testing::Folder;
 
 const BUILDS: [(&str, &str); 4] = [
     ("rv32imc", "-O0"),
@@ -47,8 +48,8 @@ struct Program<'a> {
 }
 
 impl Program<'_> {
-    fn linked(&self, scratch: &Scratch, base: u32) -> PathBuf {
-        let program = scratch.file("program.elf");
+    fn linked(&self, folder: &Folder, base: u32) -> PathBuf {
+        let program = folder.file("program.elf");
         let mut gcc = Command::new(GCC);
         gcc.arg(format!("-march={}", self.architecture));
         gcc.args(["-mabi=ilp32", self.level, "-std=gnu11", "-ffreestanding"]);
@@ -70,9 +71,9 @@ impl Program<'_> {
         program
     }
 
-    fn ours(&self, scratch: &Scratch) -> Result<Vec<u8>, String> {
-        let image = scratch.file("image");
-        let program = self.linked(scratch, 0);
+    fn ours(&self, folder: &Folder) -> Result<Vec<u8>, String> {
+        let image = folder.file("image");
+        let program = self.linked(folder, 0);
         let mut copy = Command::new(OBJCOPY);
         succeed(copy.args(["-O", "binary"]).arg(program).arg(&image));
         let mut memory = read(&image);
@@ -83,8 +84,8 @@ impl Program<'_> {
         written(&mut memory)
     }
 
-    fn theirs(&self, scratch: &Scratch) -> Result<Vec<u8>, String> {
-        let program = self.linked(scratch, 0x10000);
+    fn theirs(&self, folder: &Folder) -> Result<Vec<u8>, String> {
+        let program = self.linked(folder, 0x10000);
         let output = run(Command::new(QEMU).arg(program));
         match output.status.success() {
             true => Ok(output.stdout),
@@ -113,8 +114,8 @@ fn written(memory: &mut [u8]) -> Result<Vec<u8>, String> {
         .ok_or("the buffer is outside".into())
 }
 
-fn judge(tally: &mut Tally, name: &str, program: &Program, scratch: &Scratch) {
-    let (ours, theirs) = (program.ours(scratch), program.theirs(scratch));
+fn judge(tally: &mut Tally, name: &str, program: &Program, folder: &Folder) {
+    let (ours, theirs) = (program.ours(folder), program.theirs(folder));
     match (ours, theirs) {
         (Ok(ours), Ok(theirs)) if ours == theirs && !ours.is_empty() => {
             tally.same("equal");
@@ -138,7 +139,7 @@ fn judge(tally: &mut Tally, name: &str, program: &Program, scratch: &Scratch) {
 }
 
 /// The C programs, in each build.
-pub fn compare_programs(scratch: &Scratch) -> Tally {
+pub fn compare_programs(folder: &Folder) -> Tally {
     let mut tally = Tally::new("results, gcc and qemu, programs");
     for source in sources() {
         let name = source.file_stem().unwrap_or_default().to_string_lossy();
@@ -150,25 +151,25 @@ pub fn compare_programs(scratch: &Scratch) -> Tally {
                 level,
             };
             let name = format!("{name} {architecture} {level}");
-            judge(&mut tally, &name, &program, scratch);
+            judge(&mut tally, &name, &program, folder);
         }
     }
     tally
 }
 
 /// Programs of random instructions.
-pub fn compare_sequences(seed: u64, scratch: &Scratch) -> Tally {
+pub fn compare_sequences(seed: u64, folder: &Folder) -> Tally {
     let name = format!("results, as and qemu, programs of {COUNT} random instructions");
     let mut tally = Tally::new(name);
     for number in 0..SEQUENCES {
         let seed = seed.wrapping_mul(SEQUENCES).wrapping_add(number);
-        let source = scratch.write("sequence.S", program(seed).as_bytes());
+        let source = folder.write("sequence.S", program(seed).as_bytes());
         let program = Program {
             sources: &[source],
             architecture: "rv32imc",
             level: "-O0",
         };
-        judge(&mut tally, &format!("sequence {seed}"), &program, scratch);
+        judge(&mut tally, &format!("sequence {seed}"), &program, folder);
     }
     tally
 }

@@ -5,7 +5,7 @@
 //! Registers that hold addresses are operands of no random computation: x2, x9 and x31 point into
 //! the memory that loads and stores use, x3 to the next result, x4 to the program's start. After an
 //! instruction that computes an address, x4 or another of them is subtracted.
-use crate::words::Random;
+use testing::Random;
 
 /// Random instructions of one program: it must fit 64 KiB, and the room has two results for each.
 pub const COUNT: usize = 1500;
@@ -54,7 +54,7 @@ struct Writer {
 /// The assembly of one program.
 pub fn program(seed: u64) -> String {
     let mut writer = Writer {
-        random: Random(seed),
+        random: Random::new(seed),
         text: START.to_string(),
     };
     for register in DATA {
@@ -69,7 +69,7 @@ pub fn program(seed: u64) -> String {
     }
     writer.text += END;
     for _ in 0..AREA {
-        let value = writer.random.next();
+        let value = writer.random.word();
         writer.line(format!(".4byte {value}"));
     }
     writer.text + "end:\n"
@@ -104,7 +104,7 @@ const AREA: usize = 1024;
 
 impl Writer {
     fn below(&mut self, bound: u32) -> u32 {
-        self.random.next() % bound
+        self.random.word() % bound
     }
 
     fn one_of<T: Copy>(&mut self, all: &[T]) -> T {
@@ -121,7 +121,7 @@ impl Writer {
     }
 
     fn signed(&mut self, bits: u32) -> i32 {
-        self.random.next() as i32 >> (32 - bits)
+        self.random.word() as i32 >> (32 - bits)
     }
 
     fn line(&mut self, line: String) {
@@ -135,7 +135,7 @@ impl Writer {
     fn reload(&mut self, register: u32) {
         let value = match self.below(2) {
             0 => self.one_of(&EDGES),
-            _ => self.random.next(),
+            _ => self.random.word(),
         };
         self.line(format!("li x{register},{value}"));
     }

@@ -1,7 +1,7 @@
-//! The peers as programs, and a folder for what passes between them and us.
-use std::path::{Path, PathBuf};
+//! The peers as programs.
+use std::fs;
+use std::path::Path;
 use std::process::{Command, Output};
-use std::{env, fs, process};
 
 pub const GCC: &str = "riscv64-unknown-elf-gcc";
 pub const OBJDUMP: &str = "riscv64-unknown-elf-objdump";
@@ -32,34 +32,6 @@ pub fn succeed(command: &mut Command) -> Vec<u8> {
     let errors = String::from_utf8_lossy(&output.stderr);
     assert!(output.status.success(), "{command:?} fails: {errors}");
     output.stdout
-}
-
-/// A folder that is gone when its owner is.
-pub struct Scratch(PathBuf);
-
-impl Scratch {
-    pub fn new() -> Scratch {
-        let folder = env::temp_dir().join(format!("phuyurik-peers-{}", process::id()));
-        fs::create_dir_all(&folder).expect("the scratch folder can be made");
-        Scratch(folder)
-    }
-
-    pub fn file(&self, name: &str) -> PathBuf {
-        self.0.join(name)
-    }
-
-    pub fn write(&self, name: &str, bytes: &[u8]) -> PathBuf {
-        let path = self.file(name);
-        fs::write(&path, bytes).expect("the scratch folder can be written");
-        path
-    }
-}
-
-impl Drop for Scratch {
-    fn drop(&mut self) {
-        // Nothing depends on it: a folder that stays is only untidy.
-        let _ = fs::remove_dir_all(&self.0);
-    }
 }
 
 pub fn read(path: &Path) -> Vec<u8> {

@@ -1,4 +1,5 @@
 //! The words and halfwords that are compared.
+use testing::Random;
 
 /// The 48 operations: name, fixed bits, and their value. From the manual's instruction listing
 /// (chapter 24), with the fixed bits of RV32; `fence` may have any fields, as the paper says.
@@ -85,24 +86,12 @@ impl Bits {
     }
 }
 
-/// Random numbers, the same for the same seed (splitmix64).
-pub struct Random(pub u64);
-
-impl Random {
-    pub fn next(&mut self) -> u32 {
-        self.0 = self.0.wrapping_add(0x9E37_79B9_7F4A_7C15);
-        let mixed = (self.0 ^ (self.0 >> 30)).wrapping_mul(0xBF58_476D_1CE4_E5B9);
-        let mixed = (mixed ^ (mixed >> 27)).wrapping_mul(0x94D0_49BB_1331_11EB);
-        ((mixed ^ (mixed >> 31)) >> 32) as u32
-    }
-}
-
 /// Random words of each operation, `each` of those that have a free bit.
 pub fn of_each_operation(random: &mut Random, each: usize) -> Vec<Bits> {
     let mut words = Vec::new();
     for (_, fixed, value) in OPERATIONS {
         let wanted = if fixed == u32::MAX { 1 } else { each };
-        words.extend((0..wanted).map(|_| Bits::Word(random.next() & !fixed | value)));
+        words.extend((0..wanted).map(|_| Bits::Word(random.word() & !fixed | value)));
     }
     words
 }
@@ -120,8 +109,8 @@ pub fn near_each_operation(random: &mut Random, each: usize) -> Vec<Bits> {
     for (_, fixed, value) in OPERATIONS {
         let places: Vec<u32> = (2..32).filter(|at| fixed >> at & 1 == 1).collect();
         for _ in 0..each {
-            let turned = 1 << places[random.next() as usize % places.len()];
-            words.push(Bits::Word((random.next() & !fixed | value) ^ turned));
+            let turned = 1 << places[random.word() as usize % places.len()];
+            words.push(Bits::Word((random.word() & !fixed | value) ^ turned));
         }
     }
     words
@@ -129,7 +118,7 @@ pub fn near_each_operation(random: &mut Random, each: usize) -> Vec<Bits> {
 
 /// Words of 32-bit instructions, whatever they mean.
 pub fn of_any_kind(random: &mut Random, count: usize) -> Vec<Bits> {
-    (0..count).map(|_| Bits::Word(random.next() | 3)).collect()
+    (0..count).map(|_| Bits::Word(random.word() | 3)).collect()
 }
 
 /// Every halfword that is not the first half of a word.

@@ -9,21 +9,30 @@ fn file(name: &str, which: &str) -> Vec<u8> {
 }
 
 #[test]
+fn the_papers_listing_is_as_expected() {
+    let lines = listing(&file("list", "stdin"));
+    assert!(lines.as_bytes() == file("list", "stdout"));
+}
+
+#[test]
 fn listings_are_as_expected() {
+    let mut expected = &file("listings", "stdout")[..];
+    // The order of the program's main.
     let names = [
-        "list",
-        "list_odd",
-        "list_none",
-        "list_halves_low",
-        "list_halves_high",
-        "list_halves_long",
-        "list_words",
-        "list_sort",
-        "list_sort_short",
-        "list_too_long",
+        "odd",
+        "none",
+        "halves_low",
+        "halves_high",
+        "halves_long",
+        "words",
+        "sort",
+        "sort_short",
+        "too_long",
     ];
     for name in names {
-        let lines = listing(&file(name, "stdin"));
-        assert!(lines.as_bytes() == file(name, "stdout"), "{name} differs");
+        let lines = listing(&file("listings", &format!("data/{name}")));
+        let rest = expected.strip_prefix(lines.as_bytes());
+        expected = rest.unwrap_or_else(|| panic!("{name} differs"));
     }
+    assert!(expected.is_empty(), "a listing of no image");
 }

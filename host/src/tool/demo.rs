@@ -1,5 +1,5 @@
 //! `phuyurik demo`: the paper's recipe, run twice on one row, each fact compared with the paper.
-use super::args::Order;
+use super::args::{Order, PIECE};
 use super::error::Error;
 use super::run::{self, Outcome, Watch};
 use super::{files, show};
@@ -55,7 +55,7 @@ fn shown_in(folder: &Path) -> Result<String, Error> {
         slot: 0,
         budget: 100,
         resume: false,
-        piece: 5_000_000,
+        piece: PIECE,
     };
     std::fs::write(&order.image, RECIPE).map_err(|why| Error::file(&order.image, why))?;
     let listing = show::list(&order.image)?;

@@ -15,7 +15,7 @@ Exit codes:
             14 fetch outside, 15 load misaligned, 16 load outside,
             17 store misaligned, 18 store outside, 19 word already burnt,
             20 count full)
-  31 to 39  refused: 30 + the refusal number (31 memory too long,
+  31 to 35  refused: 30 + the refusal number (31 memory too long,
             32 row not 512 bytes, 33 row record, 34 slot, 35 state)
 "
         )
@@ -92,8 +92,8 @@ Example:
 const ROW: &str = with_codes!(
     "Usage: phuyurik row FILE
 
-Shows the burnt words of a row: index, address, value in hexadecimal and in
-decimal; then how many words are burnt and how many blank.
+Shows the burnt words of a row: index, address, value in decimal and in
+hexadecimal; then how many words are burnt and how many blank.
 
 Example:
   phuyurik row part.row

@@ -5,9 +5,9 @@ use super::journal::{
     journal_of, memory_of, path_bytes, pending, ImageMark, Locks, Memory, Moment,
 };
 use super::sealed::digest;
-use super::testing::Folder;
 use phuyurik::{State, RECORD, ROW};
 use std::fs;
+use testing::Folder;
 
 const SLOTS: usize = 3;
 const SLOT: usize = 1;
@@ -43,7 +43,7 @@ fn other_slots() -> Vec<u8> {
 fn prepare(folder: &Folder, old: Option<&Moment>) {
     let mut slots = other_slots();
     slots[SLOT * RECORD..][..RECORD].fill(0);
-    fs::write(folder.file("slots"), slots).expect("written");
+    folder.write("slots", &slots);
     for name in ["row", "slots.1.memory", "row.journal"] {
         let _ = fs::remove_file(folder.file(name));
     }
@@ -167,7 +167,7 @@ fn a_damaged_journal_is_an_error_and_changes_nothing() {
 fn a_journal_of_another_row_is_an_error() {
     let folder = Folder::new();
     let other = moment(&folder, "other", 3);
-    fs::write(folder.file("row.journal"), other.to_journal()).expect("written");
+    folder.write("row.journal", &other.to_journal());
     assert!(pending(&folder.file("row")).is_err());
 }
 

@@ -12,8 +12,6 @@ mod run;
 mod run_tests;
 mod sealed;
 mod show;
-#[cfg(test)]
-mod testing;
 
 use args::Command;
 use error::Error;

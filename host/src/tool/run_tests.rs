@@ -4,9 +4,8 @@ use super::files::{self, Action};
 use super::journal::{ImageMark, Moment};
 use super::run::{run, Watch};
 use super::show::exit_code;
-use super::testing::Folder;
 use phuyurik::{State, RECORD, ROW};
-use std::fs;
+use testing::Folder;
 
 /// Keeps what it is told.
 #[derive(Default)]
@@ -26,7 +25,7 @@ impl Watch for Told {
 }
 
 fn order(folder: &Folder, image: &[u8], budget: u64, piece: u64) -> Order {
-    fs::write(folder.file("image"), image).expect("written");
+    folder.write("image", image);
     Order {
         image: folder.file("image"),
         row: folder.file("row"),
@@ -49,7 +48,7 @@ fn saving(folder: &Folder, count: u64) -> Vec<Action> {
         ..State::fresh()
     };
     phuyurik::write_slot(&mut record, 0, &state).expect("sound");
-    fs::write(folder.file("slots"), [0; RECORD]).expect("written");
+    folder.write("slots", &[0; RECORD]);
     let moment = Moment {
         row_path: folder.file("row"),
         slots_path: folder.file("slots"),

@@ -4,13 +4,13 @@ use native.Mathlib.Omega.{arith}
 use mathlib.Core.Path.{ap}
 use borrow.Author.Needs.{needs}
 use Rattle.isa.specs.declared.LoadOp.{LoadOp}
-use Rattle.octets.specs.Widths.{bytes}
+use Rattle.octets.specs.Widths.{widthBytes}
 use Rattle.access.specs.Accesses.{loadWidth}
 use Rattle.access.proofs.extended_load.Statement.{statement}
 use Rattle.access.proofs.extended_load.Tie as tie
 
 abbrev count : LoadOp → ℕ
-count o = bytes (loadWidth o)
+count o = widthBytes (loadWidth o)
 
 load1-requires : tie.Need-load1-requires
 load1-requires c κs = let e = ap count (c .enum-told .given .1) in omega arith

@@ -1,4 +1,5 @@
 -- `arith` meets its contract: in each arm the operation is known, and the callee says its result. Assumes nothing.
+use mathlib.Core.Path.{refl}
 use borrow.Author.Needs.{needs}
 use Rattle.alu.proofs.arith.Statement.{statement}
 use Rattle.alu.proofs.arith.Tie as tie
@@ -22,8 +23,8 @@ arith-spec =
     (λ c. rw (c .before .enum-told3 .given .1) (c .sll .ensures))
     (λ c. rw (c .before .enum-told4 .given .1) (c .slt .ensures))
     (λ c. rw (c .before .enum-told5 .given .1) (c .sltu .ensures))
-    (λ c. rw (c .enum-told6 .given .1))
+    (λ c. rw (c .enum-told6 .given .1) refl)
     (λ c. rw (c .before .enum-told7 .given .1) (c .srl .ensures))
     (λ c. rw (c .before .enum-told8 .given .1) (c .sra .ensures))
-    (λ c. rw (c .enum-told9 .given .1))
-    (λ c. rw (c .enum-told10 .given .1)))
+    (λ c. rw (c .enum-told9 .given .1) refl)
+    (λ c. rw (c .enum-told10 .given .1) refl))

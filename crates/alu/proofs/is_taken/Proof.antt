@@ -1,4 +1,5 @@
 -- `is_taken` meets its contract: in each arm the test is known; a signed local reads back as its number. Assumes nothing.
+use mathlib.Core.Path.{refl}
 use borrow.Author.Needs.{needs}
 use mir.Facts.{toZ-ofZ}
 use Rattle.alu.proofs.Signed.{signed-fits}
@@ -22,9 +23,9 @@ is-taken-spec =
     (λ c. search needs) _ _
     (λ c. search needs)
     (λ c. search needs)
-    (λ c. rw (c .enum-told .given .1))
-    (λ c. rw (c .enum-told2 .given .1))
+    (λ c. rw (c .enum-told .given .1) refl)
+    (λ c. rw (c .enum-told2 .given .1) refl)
     (λ c. rw (c .before .enum-told3 .given .1) (c .is-less .ensures))
     returns-4
-    (λ c. rw (c .enum-told5 .given .1))
-    (λ c. rw (c .enum-told6 .given .1)))
+    (λ c. rw (c .enum-told5 .given .1) refl)
+    (λ c. rw (c .enum-told6 .given .1) refl))

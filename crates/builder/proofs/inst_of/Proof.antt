@@ -16,8 +16,8 @@ use Rattle.isa.specs.declared.Parts.{Parts}
 use Rattle.isa.specs.declared.Built.the-variants.{Instruction, OutOfRange}
 use Rattle.isa.specs.Registers.{reg}
 use Rattle.isa.specs.Operations.{parts, partsOf, sameParts}
-use Rattle.isa.specs.Building.{built, registers, instOf}
-use Rattle.shortest.proofs.Same.{parts-same, each}
+use Rattle.isa.specs.Building.{built, registersOk, instOf}
+use Rattle.roundtrip.proofs.Same.{parts-same, each}
 use Rattle.builder.proofs.inst_of.Statement.{statement}
 use Rattle.builder.proofs.inst_of.Tie as tie
 
@@ -25,19 +25,19 @@ few : (i : Inst) → partsOf i .operation < 48
 few i = ltb→lt (partsOf i .operation) 48 (each (λ j. ltb (partsOf j .operation) 48) (λ d s t v. tt) i)
 
 no-operation : (p : Parts) → 47 < p .operation → OutOfRange ≡ instOf p
-no-operation p h = rw (is-false (registers p && sameParts (partsOf (built p)) p) other)
+no-operation p h = rw (is-false (registersOk p && sameParts (partsOf (built p)) p) other)
   where
-    other : T (registers p && sameParts (partsOf (built p)) p) → ⊥
-    other t = omega (arith, few (built p), ap (λ (q : Parts). q .operation) (parts-same (partsOf (built p)) p (and-right (registers p) (sameParts (partsOf (built p)) p) t)))
+    other : T (registersOk p && sameParts (partsOf (built p)) p) → ⊥
+    other t = omega (arith, few (built p), ap (λ (q : Parts). q .operation) (parts-same (partsOf (built p)) p (and-right (registersOk p) (sameParts (partsOf (built p)) p) t)))
 
 field : {r : Reg} (n : ℕ) → T (ltb n 32) → r ≡ reg (low 5 n) → r .number ≡ n
 field n t e = rw e (mod-eq-of-lt (ltb→lt n 32 t))
 
-module _ (p : Parts) (ok : registers p ≡ true) {rd rs1 rs2 : Reg} (d : rd ≡ reg (low 5 (p .rd))) (s : rs1 ≡ reg (low 5 (p .rs1))) (t : rs2 ≡ reg (low 5 (p .rs2))) where
+module _ (p : Parts) (ok : registersOk p ≡ true) {rd rs1 rs2 : Reg} (d : rd ≡ reg (low 5 (p .rd))) (s : rs1 ≡ reg (low 5 (p .rs1))) (t : rs2 ≡ reg (low 5 (p .rs2))) where
   answer : {i : Inst} {q : Parts} {b : Bool} → i ≡ built (parts (p .operation) (rd .number) (rs1 .number) (rs2 .number) (p .imm)) → q ≡ partsOf i → b ≡ sameParts q p
       → cond b (Instruction i) OutOfRange ≡ instOf p
   answer e f g =
-      let all = holds (registers p) ok in
+      let all = holds (registersOk p) ok in
       let sources = and-right (ltb (p .rd) 32) (ltb (p .rs1) 32 && ltb (p .rs2) 32) all in
       let at-d = field (p .rd) (and-left (ltb (p .rd) 32) _ all) d in
       let at-s = field (p .rs1) (and-left (ltb (p .rs1) 32) _ sources) s in
@@ -51,7 +51,7 @@ returns : tie.Need-returns
 returns c = no-operation (numbers (c .before)) (c .if1 .taken)
 
 returns-2 : tie.Need-returns-2
-returns-2 c = rw (not-true (registers (numbers (c .before .before))) (c .if2 .taken))
+returns-2 c = rw (not-true (registersOk (numbers (c .before .before))) (c .if2 .taken))
 
 -- what the last test decides
 decided : (c : tie.After-same-parts)
@@ -61,7 +61,7 @@ decided c =
     let fields = made .before in
     let tests = fields .before .before .before in
     let p = numbers (tests .before .before) in
-    answer p (not-false (registers p) (tests .if2 .left)) (fields .before .before .field5 .ensures) (fields .before .field52 .ensures) (fields .field53 .ensures)
+    answer p (not-false (registersOk p) (tests .if2 .left)) (fields .before .before .field5 .ensures) (fields .before .field52 .ensures) (fields .field53 .ensures)
     (made .built .ensures)
     (c .before .parts-of .ensures)
     (c .same-parts .ensures)

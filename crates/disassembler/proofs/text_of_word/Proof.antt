@@ -17,7 +17,7 @@ returns-2 c =
 put-text-requires : tie.Need-put-text-requires
 put-text-requires c κs =
     let d = c .before .before .before .before in
-    omega (arith, word-fits (d .before .before .before .fits .bits) (d .decode .ensures) (c .before .before .i .given .1))
+    omega (arith, word-fits (d .before .before .before .args .bits) (d .decode .ensures) (c .before .before .i .given .1))
 
 returns-3 : tie.Need-returns-3
 returns-3 c =
@@ -25,7 +25,7 @@ returns-3 c =
     let told = text .before .before .before .i .given .1 in
     let d = text .before .before .before .before .before in
     let start = d .before .before .before in
-    let fits = word-fits (start .fits .bits) (d .decode .ensures) told in
+    let fits = word-fits (start .args .bits) (d .decode .ensures) told in
     one-meaning textOf (d .decode .ensures) (start .args .room .now) (d .before .if1 .left) told (omega arith) (text .put-text .ensures)
 
 pub text-of-word-spec : {M : Type 1} → statement M

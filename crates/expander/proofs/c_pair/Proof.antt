@@ -2,7 +2,7 @@
 use Rattle.word.proofs.Rows.{none}
 use Rattle.isa.specs.declared.Decoded.the-variants.{Illegal}
 use Rattle.isa.specs.declared.Inst.the-variants.{Arith}
-use Rattle.isa.specs.Rvc.{pairs, rd3, rs3, clear12}
+use Rattle.isa.specs.Rvc.{pairs, short9-7, short4-2, clear12}
 use Rattle.expander.proofs.Cases.{bits6-5}
 use Rattle.expander.proofs.c_pair.Statement.{statement}
 use Rattle.expander.proofs.c_pair.Tie as tie
@@ -22,7 +22,7 @@ returns-4 c = rw (← bits6-5, c .before .match .keys4) (c .c-arith4 .ensures)
 returns-5 : tie.Need-returns-5
 returns-5 c =
     let h = c .before .args .h in
-    rw (← bits6-5) (none Illegal pairs _ (λ o. clear12 h (Arith o (rd3 h) (rd3 h) (rs3 h))) _ (c .match .rest))
+    rw (← bits6-5) (none Illegal pairs _ (λ o. clear12 h (Arith o (short9-7 h) (short9-7 h) (short4-2 h))) _ (c .match .rest))
 
 pub c-pair-spec : {M : Type 1} → statement M
 c-pair-spec = tie.close (tie.spec _ _ _ _ returns returns-2 returns-3 returns-4 returns-5)

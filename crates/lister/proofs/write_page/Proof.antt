@@ -37,4 +37,4 @@ write-page-spec =
     (λ c. search needs)
     returns
     (λ c. search needs)
-    (λ c. search needs))
+    (λ c. omega arith))

@@ -7,7 +7,7 @@ use native.Mathlib.Omega.{arith}
 use lib.ListN.{length}
 use borrow.Author.Needs.{needs}
 use borrow.Author.Tests.{leb-true, leb-false}
-use Rattle.listing.proofs.Lines.{loads, line-moves}
+use Rattle.listing.proofs.Lines.{line-moves}
 use Rattle.listing.proofs.Writing.{Written, begins, goes-on, ends}
 use Rattle.listing.proofs.list.Statement.{statement}
 use Rattle.listing.proofs.list.Tie as tie
@@ -31,7 +31,7 @@ loop-again : tie.Need-loop-again Inv-loop μ-loop
 loop-again c =
     let at = c .before .before .before .before .before .before .before .before .before .args in
     let v = c .before .before .put-line .ensures in
-    (omega arith, rw (v .1) (goes-on (at .image .now) (at .from) (at .room .now) (loads (at .image .now) (λ n. c .before .before .before .before .before .before .before .before .shared-slice-known .given n .fits)) (omega arith) (omega (arith, leb-true)) (v .0) (c .before .before .before .before .before .before .loop .inv .1)))
+    (omega arith, rw (v .1) (goes-on (at .image .now) (at .from) (at .room .now) (λ n. c .before .before .before .before .before .before .before .before .shared-slice-known .given n .fits) (omega arith) (omega (arith, leb-true)) (v .0) (c .before .before .before .before .before .before .loop .inv .1)))
 
 returns : tie.Need-returns Inv-loop μ-loop
 returns c = ends _ _ _ (inr (omega (arith, leb-false))) (c .before .before .loop .inv .1)

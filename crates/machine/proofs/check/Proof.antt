@@ -2,8 +2,8 @@
 use mathlib.Core.Path.{sym, _∙_}
 use borrow.Author.Needs.{needs}
 use borrow.Author.Tests.{not-true, not-false}
-use Rattle.machine.specs.Entries.{stateChecked}
-use Rattle.machine.proofs.Laws.{board-refused, board-passed}
+use Rattle.state.specs.States.{stateChecked}
+use Rattle.boards.proofs.Boards.{board-refused, board-passed}
 use Rattle.machine.proofs.check.Statement.{statement}
 use Rattle.machine.proofs.check.Tie as tie
 

@@ -3,9 +3,11 @@ use native.Mathlib.Omega.{arith}
 use mathlib.Core.Path.{_≡_, sym, _∙_}
 use Prim.Native.Nat.{_-_}
 use borrow.Author.Needs.{needs}
-use Rattle.machine.specs.Steps.{world, retired}
-use Rattle.machine.specs.Entries.{stateChecked, runDecided}
-use Rattle.machine.proofs.Laws.{board-length, count-grew}
+use Rattle.engine.specs.Steps.{world, retired}
+use Rattle.state.specs.States.{stateChecked}
+use Rattle.machine.specs.Entries.{runDecided}
+use Rattle.engine.proofs.Laws.{count-grew}
+use Rattle.boards.proofs.Boards.{board-length}
 use Rattle.machine.proofs.run.Statement.{statement}
 use Rattle.machine.proofs.run.Tie as tie
 

@@ -1,9 +1,10 @@
 -- A refusal decides; else it is a run of one. Assumes nothing.
 use mathlib.Core.Path.{sym, _∙_}
 use borrow.Author.Needs.{needs}
-use Rattle.machine.specs.Steps.{ran}
-use Rattle.machine.specs.Entries.{stateChecked, stepDecided}
-use Rattle.machine.proofs.Laws.{board-length}
+use Rattle.engine.specs.Steps.{ran}
+use Rattle.state.specs.States.{stateChecked}
+use Rattle.machine.specs.Entries.{stepDecided}
+use Rattle.boards.proofs.Boards.{board-length}
 use Rattle.machine.proofs.step.Statement.{statement}
 use Rattle.machine.proofs.step.Tie as tie
 

@@ -4,7 +4,7 @@ use mathlib.Core.Path.{_≡_}
 use lib.ListN.{length, take}
 use Rattle.records.proofs.Records.{write-start, write-turn, write-done}
 use Rattle.records.specs.Records.{words, recordOf}
-use Rattle.octets.specs.Bytes.{le}
+use Rattle.octets.specs.Bytes.{littleEndian}
 use mathlib.Core.List.{_++_}
 use Prim.Native.Nat.{_+_, _-_, _*_, _≤_}
 use borrow.Author.Needs.{needs}
@@ -13,7 +13,7 @@ use Rattle.records.proofs.write_record.Tie as tie
 
 abbrev Inv-loop : tie.InvT-loop
 Inv-loop part₀ s x i₀ part i =
-    (i ≤ 31) × ((length part ≡ 144) × (take (4 + 4 * i) part ≡ le 4 (s .pc) ++ words (take i x)))
+    (i ≤ 31) × ((length part ≡ 144) × (take (4 + 4 * i) part ≡ littleEndian 4 (s .pc) ++ words (take i x)))
 
 abbrev μ-loop : tie.MeasureT-loop
 μ-loop part₀ s x i₀ part i = 31 - i
@@ -31,7 +31,7 @@ loop-again c =
       search needs,
       (
         search needs,
-        write-turn (le 4 (s .pc)) (s .x) (l .i) (l .part) _ (omega arith) (omega arith) (l .inv .1 .1) (c .before .before .store42 .ensures),
+        write-turn (littleEndian 4 (s .pc)) (s .x) (l .i) (l .part) _ (omega arith) (omega arith) (l .inv .1 .1) (c .before .before .store42 .ensures),
       ),
     )
 
@@ -41,7 +41,7 @@ returns c =
     let l = c .before .before .before .before .before .before .before .before .before .before .loop in
     let s = c .before .before .before .before .before .before .before .before .before .before .before .before .before .before .before .before .before .args .s in
     let n : length (s .x) ≡ 31 = search needs in
-    write-done (le 4 (s .pc)) (s .x) (s .count) (s .stop) (l .i) (l .part) _ _ n (omega arith) (l .inv .1 .0) (search needs) (l .inv .1 .1) (c .before .before .before .before .before .before .before .store8 .ensures) (c .before .before .store82 .ensures)
+    write-done (littleEndian 4 (s .pc)) (s .x) (s .count) (s .stop) (l .i) (l .part) _ _ n (omega arith) (l .inv .1 .0) (search needs) (l .inv .1 .1) (c .before .before .before .before .before .before .before .store8 .ensures) (c .before .before .store82 .ensures)
 
 pub write-record-spec : {M : Type 1} → statement M
 write-record-spec =

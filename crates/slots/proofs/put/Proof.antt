@@ -1,4 +1,5 @@
 -- `put` meets its contract: the part that is lent is the slot, and it comes back as the record. Assumes nothing.
+use mathlib.Core.Path.{refl}
 use mathlib.Core.List.{append-assoc}
 use lib.Seq.{drop-drop}
 use borrow.Author.Needs.{needs}
@@ -7,9 +8,7 @@ use Rattle.slots.proofs.put.Statement.{statement}
 use Rattle.slots.proofs.put.Tie as tie
 
 returns : tie.Need-returns
-returns c =
-    let at = c .before .before .before .before .before .args in
-    rw (one-record (at .k), c .before .before .write-record .ensures, drop-drop, append-assoc)
+returns c = rw (one-record, c .before .before .write-record .ensures, drop-drop, append-assoc) refl
 
 pub put-spec : {M : Type 1} → statement M
 put-spec =

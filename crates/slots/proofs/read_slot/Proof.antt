@@ -1,4 +1,5 @@
 -- `read_slot` meets its contract: the slot's test, then the record's, decide as the contract's do; the part that is read is the slot. Assumes nothing.
+use mathlib.Core.Path.{refl}
 use native.Mathlib.Omega.{arith}
 use borrow.Author.Needs.{needs}
 use borrow.Author.Tests.{not-true, not-false}
@@ -11,7 +12,7 @@ returns : tie.Need-returns
 unfolding readDecided
 returns c =
     let slot = c .before .before .is-slot in
-    rw (← slot .ensures, not-true (slot .result) (c .before .if1 .taken), c .none .ensures)
+    rw (← slot .ensures, not-true (slot .result) (c .before .if1 .taken), c .none .ensures) refl
 
 mul-at : tie.Need-mul-at
 mul-at c =
@@ -31,31 +32,29 @@ part-part-end c =
 returns-2 : tie.Need-returns-2
 unfolding readDecided
 returns-2 c =
-    let at = c .before .before .before .before .before .before .before .args in
     let slot = c .before .before .before .before .before .is-slot in
     let sound = c .before .before .is-sound in
     rw (
       ← slot .ensures,
       not-false (slot .result) (c .before .before .before .before .if1 .left),
-      ← (rw (one-record (at .k)) at (sound .ensures)),
+      ← (rw one-record at (sound .ensures)),
       not-true (sound .result) (c .before .if2 .taken),
       c .none2 .ensures,
-    )
+    ) refl
 
 returns-3 : tie.Need-returns-3
 unfolding readDecided
 returns-3 c =
-    let at = c .before .before .before .before .before .before .before .args in
     let slot = c .before .before .before .before .before .is-slot in
     let sound = c .before .before .is-sound in
     rw (
       ← slot .ensures,
       not-false (slot .result) (c .before .before .before .before .if1 .left),
-      ← (rw (one-record (at .k)) at (sound .ensures)),
+      ← (rw one-record at (sound .ensures)),
       not-false (sound .result) (c .before .if2 .left),
       c .read-record .ensures,
-      one-record (at .k),
-    )
+      one-record,
+    ) refl
 
 pub read-slot-spec : {M : Type 1} → statement M
 read-slot-spec =

@@ -1,22 +1,24 @@
 -- `write_slot` meets its contract: the slot's test, then the state's, decide as the contract's do. Assumes nothing.
+use mathlib.Core.Path.{refl, ap}
 use native.Mathlib.Omega.{arith}
 use borrow.Author.Needs.{needs}
 use borrow.Author.Tests.{not-true, not-false}
-use Rattle.slots.specs.Slots.{writeDecided}
+use Rattle.answers.specs.declared.Check.the-variants.{Passed}
+use Rattle.slots.specs.Slots.{writeOutcome, writeDecided}
 use Rattle.slots.proofs.Slots.{slot-fits}
 use Rattle.slots.proofs.write_slot.Statement.{statement}
 use Rattle.slots.proofs.write_slot.Tie as tie
 
 returns : tie.Need-returns
 unfolding writeDecided
-returns c = rw (← c .before .is-slot .ensures, not-true (c .before .is-slot .result) (c .if1 .taken))
+returns c = rw (← c .before .is-slot .ensures, not-true (c .before .is-slot .result) (c .if1 .taken)) refl
 
 returns-2 : tie.Need-returns-2
 unfolding writeDecided
 returns-2 c =
     let slot = c .before .before .before .is-slot in
     let formed = c .before .is-well-formed in
-    rw (← slot .ensures, not-false (slot .result) (c .before .before .if1 .left), ← formed .ensures, not-true (formed .result) (c .if2 .taken))
+    rw (← slot .ensures, not-false (slot .result) (c .before .before .if1 .left), ← formed .ensures, not-true (formed .result) (c .if2 .taken)) refl
 
 put-requires : tie.Need-put-requires
 put-requires c κs =
@@ -29,12 +31,11 @@ returns-3 c =
     let slot = c .before .before .before .before .before .before .before .is-slot in
     let formed = c .before .before .before .before .before .is-well-formed in
     rw (
-      c .before .before .put .ensures,
       ← slot .ensures,
       not-false (slot .result) (c .before .before .before .before .before .before .if1 .left),
       ← formed .ensures,
       not-false (formed .result) (c .before .before .before .before .if2 .left),
-    )
+    ) (ap (writeOutcome Passed) (c .before .before .put .ensures))
 
 pub write-slot-spec : {M : Type 1} → statement M
 write-slot-spec =

@@ -1,28 +1,22 @@
 -- `text::letter` meets its contract: the table is the names, which one test says at its 288 bytes. Assumes nothing.
 use mathlib.Core.Path.{_≡_, sym}
-use mathlib.Core.Bool.{Bool, true, cond}
 use mathlib.Core.List.{List}
 use native.Mathlib.Omega.{arith}
-use Prim.Native.Nat.{ℕ, _+_, _*_, _/_, _%_, _<_, _≤_}
-use borrow.Author.Tests.{lt-ltb}
-use lib.Arith.{digits-div, digits-mod}
-use lib.Dec.{T, eqb, eqb→eq, ltb}
+use Prim.Native.Nat.{ℕ, _+_, _*_, _<_, _≤_}
+use lib.Dec.{T}
 use lib.ListN.{getD, List·getD-eq-default}
-use Rattle.word.proofs.Sweep.{every, at}
+use Rattle.word.proofs.Sweep.{every, ruled, entry}
 use Rattle.text.specs.Names.{names, nameAt}
 use Rattle.text.proofs.Names.{no-name, name-short}
 use Rattle.text.proofs.letter.Statement.{statement}
 use Rattle.text.proofs.letter.Tie as tie
 
--- byte n of the table is byte n % 6 of name n / 6
-abbrev right : List ℕ → ℕ → Bool
-right table n = cond (ltb n 288) (eqb (getD table n 0) (getD (nameAt (n / 6)) (n % 6) 32)) true
+-- a name is a row of six bytes
+abbrev byteOf : ℕ → ℕ → ℕ
+byteOf o k = getD (nameAt o) k 32
 
-rule : (table : List ℕ) → T (every (right table) 9 0) → (o k : ℕ) → o < 48 → k < 6 → getD table (o * 6 + k) 0 ≡ getD (nameAt o) k 32
-rule table t o k l m =
-    let n : o * 6 + k < 288 = omega arith in
-    let e = rw (lt-ltb (o * 6 + k) 288 n) at (at (right table) 9 0 t (o * 6 + k) (omega arith) (omega arith)) in
-    rw (digits-div o m, digits-mod o m) at (eqb→eq (getD table (o * 6 + k) 0) (getD (nameAt ((o * 6 + k) / 6)) ((o * 6 + k) % 6) 32) e)
+rule : (table : List ℕ) → T (every (ruled 6 288 byteOf table) 9 0) → (o k : ℕ) → o < 48 → k < 6 → getD table (o * 6 + k) 0 ≡ byteOf o k
+rule table t o k l m = entry 6 288 9 byteOf table t o k m (omega arith) (omega arith)
 
 returns : tie.Need-returns
 returns c =

@@ -6,16 +6,16 @@ use native.Mathlib.Omega.{arith}
 use Prim.Native.Nat.{ℕ, _+_}
 use lib.ListN.{length, length-append}
 use Rattle.isa.specs.declared.Reg.{Reg}
-use Rattle.ascii.specs.Numbers.{signed}
+use Rattle.ascii.specs.Numbers.{signedDecimal}
 use Rattle.ascii.proofs.Rooms.{then}
-use Rattle.text.specs.Text.{space, comma, parens, register}
+use Rattle.text.specs.Text.{space, comma, parens, registerText}
 use Rattle.text.proofs.put_address.Statement.{statement}
 use Rattle.text.proofs.put_address.Tie as tie
 
 -- the two in front, the base register, and its brackets
 size : (first : Reg) (offset : ℕ) (base : Reg)
-    → length (space (register first) ++ comma (signed offset) ++ parens (register base))
-    ≡ length (space (register first) ++ comma (signed offset)) + length (register base) + 2
+    → length (space (registerText first) ++ comma (signedDecimal offset) ++ parens (registerText base))
+    ≡ length (space (registerText first) ++ comma (signedDecimal offset)) + length (registerText base) + 2
 size first offset base = simp length-append (omega arith)
 
 put-two-requires : tie.Need-put-two-requires

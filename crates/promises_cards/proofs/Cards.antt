@@ -1,0 +1,79 @@
+-- The cards hold, by computation: a shortening by the halfword to try, and a run by its steps until it stops. Assumes nothing.
+use mathlib.Core.Path.{_≡_, refl, ap, _∙_}
+use mathlib.Core.Bool.{false}
+use mathlib.Core.List.{List}
+use Prim.Native.Nat.{ℕ, _+_}
+use native.Mathlib.Nat.{add-zero}
+use borrow.Author.Tests.{eqb-false}
+use Rattle.answers.specs.declared.Check.{Check}
+use Rattle.answers.specs.declared.Check.the-variants.{Passed, Refused}
+use Rattle.isa.specs.declared.Inst.the-variants.{Imm}
+use Rattle.isa.specs.declared.ImmOp.the-variants.{Addi}
+use Rattle.isa.specs.Registers.{sp}
+use Rattle.isa.specs.Decoding.{decoded}
+use Rattle.isa.specs.Encoding.{inRange}
+use Rattle.isa.specs.Rvc.{expanded}
+use Rattle.isa.specs.Answers.{ofShortened}
+use Rattle.shortest.specs.Trial.{tryFor}
+use Rattle.shortest.proofs.Shortest.{by-one}
+use Rattle.octets.specs.Bytes.{littleEndian, ofLittleEndian, load, store}
+use Rattle.place.specs.Map.{placed}
+use Rattle.part.specs.Row.{allKeep, burnt}
+use Rattle.access.specs.Accesses.{loadedFrom, storedTo}
+use Rattle.execute.specs.Execution.{effectOf}
+use Rattle.fetch.specs.Fetching.{fetchedWith, fetched}
+use Rattle.engine.specs.Steps.{World, effectFetched, next, applied, paused, stepped, ran, retired}
+use Rattle.machine.specs.declared.Ran.{Ran}
+use Rattle.machine.specs.Entries.{Outcome, checked, runDecided, runEntry}
+use Rattle.engine.proofs.Laws.{ran-add, ran-stopped, retired-add, retired-stopped}
+use Rattle.promises_cards.specs.Cards.{cards, Claim, endOf, start, blank, image, spent}
+
+-- a run that has stopped after a steps ends so with any larger budget
+run-end : (a b : ℕ) (w : World) → paused (ran a w) ≡ false → runEntry (a + b) w ≡ runEntry a w
+unfolding runDecided
+run-end a b w p = go (checked w)
+  where
+    go : (c : Check) → runDecided c (a + b) w ≡ runDecided c a w
+    go Passed = let h = eqb-false _ _ p in rw (ran-add, retired-add, ran-stopped b (ran a w) h, retired-stopped b (ran a w) h, add-zero)
+    go (Refused r) = refl
+
+-- the first run stops in its fourth step and leaves word 0 burnt; the second, on that row, stops in its third
+abbrev spent-row : List ℕ
+spent-row = burnt 0 7 blank
+
+stops : (paused (ran 4 (start image blank)) ≡ false) × (runEntry 4 (start image blank) .row ≡ spent-row) × (paused (ran 3 (start image spent-row)) ≡ false)
+unfolding decoded expanded littleEndian ofLittleEndian load store placed burnt loadedFrom storedTo effectOf fetchedWith fetched effectFetched next applied stepped ran allKeep runDecided
+stops = (refl, refl, refl)
+
+first-run : runEntry 100 (start image blank) ≡ runEntry 4 (start image blank)
+first-run = run-end 4 96 (start image blank) (stops .0)
+
+second-run : runEntry 100 (start image spent) ≡ runEntry 3 (start image spent-row)
+second-run =
+    ap (λ f. runEntry 100 (start image f)) (ap (λ (o : Outcome Ran). o .row) first-run ∙ stops .1)
+    ∙ run-end 3 97 (start image spent-row) (stops .2)
+
+pub cards-hold : Claim cards
+unfolding decoded expanded inRange tryFor littleEndian ofLittleEndian load store placed burnt loadedFrom storedTo effectOf fetchedWith fetched effectFetched next applied stepped ran retired allKeep runDecided
+cards-hold = (
+  (refl, tt),
+  (
+    (refl, tt),
+    (
+      (refl, tt),
+      (
+        (refl, (refl, tt)),
+        (
+          (refl, tt),
+          (
+            (refl, (refl, (refl, tt))),
+            (
+              (refl, (refl, (ap ofShortened (by-one (Imm Addi sp sp 16)), (refl, tt)))),
+              ((refl, (refl, tt)), ((λ rd next f. refl, tt), ((refl, (refl, tt)), ((ap endOf first-run, (refl, tt)), ((ap endOf second-run, tt), tt))))),
+            ),
+          ),
+        ),
+      ),
+    ),
+  ),
+)

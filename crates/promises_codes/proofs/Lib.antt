@@ -1,0 +1,4 @@
+pub mod Readings
+pub mod Halfwords
+pub mod Numbers
+pub mod Instructions

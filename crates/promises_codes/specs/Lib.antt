@@ -1,0 +1,2 @@
+pub mod Halfwords
+pub mod Instructions

@@ -1,0 +1,33 @@
+// A run carried on from its slot.
+use answers::Check;
+use answers::Refusal;
+use boards::check_board;
+use engine::run_steps;
+use slots::put;
+use slots::read_slot;
+ghost use mathlib.Core.Path.{_≡_};
+ghost use Rattle.resume.specs.Resuming.{sheet, resumeEntry};
+
+// What `run_slot` answers: the number retired, or a refusal.
+pub enum Resumed {
+    Retired(u64),
+    Refused(Refusal),
+}
+
+// Reads slot k, runs it for at most budget steps and writes it back. Refuses with 1 to 5.
+pub fn run_slot(mem: &mut [u8], row: &mut [u8], slots: &mut [u8], k: usize, budget: u64) -> Resumed
+    ensures { λ r. ⌜ sheet r (now (mem .exit)) (now (row .exit)) (now (slots .exit)) ≡ resumeEntry budget k (now (mem .entry)) (now (row .entry)) (now (slots .entry)) ⌝ }
+{
+    if let Check::Refused(r) = check_board(mem, row) {
+        return Resumed::Refused(r);
+    }
+    let back = read_slot(slots, k);
+    let found = back.check;
+    if let Check::Refused(r) = found {
+        return Resumed::Refused(r);
+    }
+    let s = back.state;
+    let t = run_steps(s, mem, row, budget);
+    put(slots, k, t);
+    Resumed::Retired(t.count - s.count)
+}

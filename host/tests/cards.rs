@@ -1,0 +1,81 @@
+//! The paper's further cards, through the wrapper. What is expected is the paper's: the last
+//! paragraph of "Bench cards", and from "One step, one run" that a stop changes nothing else.
+use phuyurik::*;
+
+// lw x5,0(x1) and lh x5,0(x1)
+const LOAD_WORD: u32 = 0x0000_A283;
+const LOAD_HALF: u32 = 0x0000_9283;
+
+// c.srli x8,31, and the same with 32, which is no instruction
+const SHIFT_BY_31: u16 = 0x807D;
+const SHIFT_BY_32: u16 = 0x9001;
+
+/// A full memory: the instruction at 0, then words that all differ, and none its own address.
+fn memory(instruction: u32) -> Vec<u8> {
+    let others = (4..LONGEST_MEMORY as u32).step_by(4).map(|at| !at);
+    std::iter::once(instruction)
+        .chain(others)
+        .flat_map(u32::to_le_bytes)
+        .collect()
+}
+
+/// The fresh state, but for one register.
+fn fresh_with(register: usize, value: u32) -> State {
+    let mut s = State::fresh();
+    s.x[register - 1] = value;
+    s
+}
+
+/// One step of `before`, which has to give `after` and leave a blank row blank.
+fn check_step(memory: &mut [u8], before: &State, after: &State) {
+    let mut s = before.clone();
+    let mut row = [0; ROW];
+    assert_eq!(step(&mut s, memory, &mut row), Ok(()));
+    assert_eq!(s, *after, "from {before:?} with M = {}", memory.len());
+    assert_eq!(row, [0; ROW]);
+}
+
+fn check_stop(memory: &mut [u8], before: &State, stop: u8) {
+    let mut after = before.clone();
+    after.stop = stop;
+    check_step(memory, before, &after);
+}
+
+#[test]
+fn lw_at_the_end_of_every_memory() {
+    let mut full = memory(LOAD_WORD);
+    for size in (4..=LONGEST_MEMORY).step_by(4) {
+        let last = size as u32 - 4;
+        let before = fresh_with(1, last);
+        let mut after = before.clone();
+        after.x[4] = if last == 0 { LOAD_WORD } else { !last };
+        after.pc = 4;
+        after.count = 1;
+        check_step(&mut full[..size], &before, &after);
+        check_stop(&mut full[..size], &fresh_with(1, size as u32), 6);
+    }
+    assert_eq!(full, memory(LOAD_WORD));
+}
+
+#[test]
+fn lh_at_every_odd_address() {
+    let mut full = memory(LOAD_HALF);
+    for address in (1..LONGEST_MEMORY as u32).step_by(2) {
+        check_stop(&mut full, &fresh_with(1, address), 5);
+    }
+    assert_eq!(full, memory(LOAD_HALF));
+}
+
+#[test]
+fn short_shift_by_31_and_by_32() {
+    let before = fresh_with(8, 0x8000_0000);
+    let mut after = fresh_with(8, 1);
+    after.pc = 2;
+    after.count = 1;
+    let mut room = [0; ROOM];
+    let length = text_of_half(SHIFT_BY_31, &mut room).unwrap();
+    assert_eq!(room[..length], *b"c:srli x8,x8,31");
+    check_step(&mut SHIFT_BY_31.to_le_bytes(), &before, &after);
+    assert_eq!(expand(SHIFT_BY_32).map_err(Refusal::number), Err(7));
+    check_stop(&mut SHIFT_BY_32.to_le_bytes(), &before, 3);
+}
