@@ -454,9 +454,9 @@ noHalves =
 -- ---- the claim
 
 -- what the definitions say of some bits: the word and the text of the instruction that they mean
-abbrev pub shown : Decoded → Option (Encoded × List ℕ)
-shown (Legal i) = some (encoded i, textOf i)
-shown Illegal = none
+abbrev pub wordAndTextOf : Decoded → Option (Encoded × List ℕ)
+wordAndTextOf (Legal i) = some (encoded i, textOf i)
+wordAndTextOf Illegal = none
 
 -- what a row says of them
 abbrev pub wordAndText : ℕ → String → Option (Encoded × List ℕ)
@@ -464,12 +464,12 @@ wordAndText w text = some (Bits w, bytes text)
 
 -- row by row, both say the same
 abbrev pub Words : List Word → Type 0
-Words rows = map (λ row. shown (decoded (row .0))) rows ≡ map (λ row. wordAndText (row .0) (row .1)) rows
+Words rows = map (λ row. wordAndTextOf (decoded (row .0))) rows ≡ map (λ row. wordAndText (row .0) (row .1)) rows
 
 -- .. and the word is decoded to what the halfword stands for
 abbrev pub Halves : List Half → Type 0
 Halves rows =
-    (map (λ row. shown (expanded (row .0))) rows ≡ map (λ row. wordAndText (row .1) (row .2)) rows)
+    (map (λ row. wordAndTextOf (expanded (row .0))) rows ≡ map (λ row. wordAndText (row .1) (row .2)) rows)
     × (map (λ row. decoded (row .1)) rows ≡ map (λ row. expanded (row .0)) rows)
 
 -- a claim of each table

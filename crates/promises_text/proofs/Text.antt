@@ -38,7 +38,7 @@ use Rattle.listing.specs.Listing.{shownOf, shownAt, lineOf, lineAt, linesFrom, 
 use Rattle.listing.proofs.Lines.{line-none}
 use Rattle.listing.proofs.Pages as Pages
 use Rattle.answers.specs.Order.{refusal, noRefusal}
-use Rattle.promises_text.specs.Text.{SmallRoom, WordTextRefuses, HalfTextRefuses, TextRefuses, TextKeeps, Gives, WordText, HalfText, InstText, longestText, TextFits, longestShortText, ShortTextFits, TextDetermines, ShortIsNotLong, pages, PagesAreListing, PageMoves, PageFits, EmptyListing, LongListing, OddListing, PaperListing, PageKeeps, One, TextDetermined, WroteDetermined}
+use Rattle.promises_text.specs.Text.{SmallRoom, WordTextRefuses, HalfTextRefuses, TextRefuses, TextKeeps, Fills, WordText, HalfText, InstText, longestText, TextFits, longestShortText, ShortTextFits, TextDetermines, ShortIsNotLong, pages, PagesAreListing, PageMoves, PageFits, EmptyListing, LongListing, OddListing, PaperListing, PageKeeps, One, TextDetermined, WroteDetermined}
 use Rattle.answers.proofs.Order.{apart}
 use Rattle.promises_codes.proofs.Readings.{legal-is}
 use Rattle.octets.proofs.Bytes.{all-bytes}
@@ -116,7 +116,7 @@ text-keeps room = (λ w. bits-go (decoded w) textOf room .keeps, λ h. bits-go (
 -- ---- the text
 
 bits-give : (d : Decoded) (i : Inst) (text : Inst → List ℕ) (room : List ℕ) → 24 ≤ length room → ofDecoded d ≡ given i
-    → Gives (roomy room (meaning d text room)) (text i) room
+    → Fills (roomy room (meaning d text room)) (text i) room
 unfolding meaning
 bits-give d i text room h e = rw (le-leb 24 (length room) h, legal-is d i e) (refl, refl)
 

@@ -54,18 +54,18 @@ TextKeeps =
 
 -- ---- the text: the answer is its length; it stands at the front of the room, and bytes of the room after it stay
 
-abbrev pub Gives : TextOutcome → List ℕ → List ℕ → Type 0
-Gives o text room = (ofWritten (o .answer) ≡ given (length text)) × (o .room ≡ text ++ drop (length text) room)
+abbrev pub Fills : TextOutcome → List ℕ → List ℕ → Type 0
+Fills o text room = (ofWritten (o .answer) ≡ given (length text)) × (o .room ≡ text ++ drop (length text) room)
 
 abbrev pub WordText : Type 0
-WordText = (w : ℕ) (i : Inst) (room : List ℕ) → 24 ≤ length room → decodes w ≡ given i → Gives (wordEntry w room) (textOf i) room
+WordText = (w : ℕ) (i : Inst) (room : List ℕ) → 24 ≤ length room → decodes w ≡ given i → Fills (wordEntry w room) (textOf i) room
 
 -- of a short instruction it is its expansion's with c: in front
 abbrev pub HalfText : Type 0
-HalfText = (h : ℕ) (i : Inst) (room : List ℕ) → 24 ≤ length room → expands h ≡ given i → Gives (halfEntry h room) (bytes "c:" ++ textOf i) room
+HalfText = (h : ℕ) (i : Inst) (room : List ℕ) → 24 ≤ length room → expands h ≡ given i → Fills (halfEntry h room) (bytes "c:" ++ textOf i) room
 
 abbrev pub InstText : Type 0
-InstText = (i : Inst) (room : List ℕ) → 24 ≤ length room → inRange i ≡ true → Gives (instEntry i room) (textOf i) room
+InstText = (i : Inst) (room : List ℕ) → 24 ≤ length room → inRange i ≡ true → Fills (instEntry i room) (textOf i) room
 
 -- ---- how long a text is
 

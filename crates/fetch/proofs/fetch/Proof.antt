@@ -1,5 +1,7 @@
 -- Each test of the code is one of the fetch, in the same order. Assumes nothing.
 use mathlib.Core.Path.{sym, _∙_}
+use Prim.Native.Nat.{_+_, _%_, _<_}
+use lib.ListN.{length}
 use borrow.Author.Needs.{needs}
 use borrow.Author.Tests.{eq-eqb, le-leb, lt-leb}
 use Rattle.fetch.specs.Fetching.{fetched}
@@ -13,7 +15,9 @@ returns c = rw (lt-leb _ _ (c .if1 .taken))
 
 returns-2 : tie.Need-returns-2
 unfolding fetched
-returns-2 c = rw (le-leb _ _ (c .before .before .if1 .left), ← c .before .load2 .ensures, eq-eqb _ _ (c .if2 .taken))
+returns-2 c =
+    let ones = eq-eqb (c .before .load2 .result % 32) 31 (c .if2 .taken) in
+    rw (le-leb _ _ (c .before .before .if1 .left), ← c .before .load2 .ensures, ones)
 
 returns-3 : tie.Need-returns-3
 returns-3 c =
@@ -34,7 +38,8 @@ returns-5 c =
     let k = c .before in
     let h = k .before .before in
     let at = h .before .before .before .args in
-    rw (fetch-long (at .pc) (at .mem .now) (h .before .if1 .left) (h .load2 .ensures) (k .before .if2 .left) (k .if3 .left), lt-leb _ _ (c .if4 .taken))
+    let beyond : length (at .mem .now) < at .pc + 4 = c .if4 .taken in
+    rw (fetch-long (at .pc) (at .mem .now) (h .before .if1 .left) (h .load2 .ensures) (k .before .if2 .left) (k .if3 .left), lt-leb _ _ beyond)
 
 returns-6 : tie.Need-returns-6
 returns-6 c =

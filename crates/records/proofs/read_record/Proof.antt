@@ -1,11 +1,13 @@
 -- `read_record` meets its contract: after i turns the first i registers are those that the record says. Assumes nothing.
 use Prim.Native.Nat.{_-_, _≤_}
 use native.Mathlib.Omega.{arith}
-use mathlib.Core.Path.{_≡_, refl, sym, _∙_}
+use mathlib.Core.Path.{_≡_, refl, sym, ap, _∙_}
 use lib.ListN.{length, take, drop, length-set}
 use lib.Seq.{take-all}
 use borrow.Author.Needs.{needs}
+use Rattle.octets.specs.Bytes.{load}
 use Rattle.octets.proofs.Bytes.{load-one}
+use Rattle.state.specs.States.{state}
 use Rattle.records.specs.Records.{ofWords, stateOf}
 use Rattle.records.proofs.Records.{read-turn}
 use Rattle.records.proofs.read_record.Statement.{statement}
@@ -33,7 +35,8 @@ returns c =
     let m = c .before .before .before .before .before .before .args .part .now in
     let z : l .i ≡ 31 = omega arith in
     let e : l .x ≡ ofWords 31 (drop 4 m) = sym (take-all 31 (l .x) (omega arith)) ∙ (rw z at (l .inv .1 .1)) in
-    rw (c .before .before .load42 .ensures, c .before .load8 .ensures, load-one 136 m (omega arith), e)
+    rw (c .before .before .load42 .ensures, c .before .load8 .ensures, e)
+    (ap (λ v. state (load 4 0 m) (ofWords 31 (drop 4 m)) (load 8 128 m) v) (load-one 136 m (omega arith)))
 
 pub read-record-spec : {M : Type 1} → statement M
 read-record-spec =
