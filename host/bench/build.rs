@@ -17,7 +17,7 @@ fn run(command: &mut Command) {
     assert!(done.success(), "{command:?} failed");
 }
 
-fn compile(sources: &Path, out: &Path) {
+fn compile(sources: &Path, include: &Path, out: &Path) {
     let compiler = env::var_os("CC").unwrap_or_else(|| "cc".into());
     let mut archive = Command::new("ar");
     archive.arg("crs").arg(out.join("libplain.a"));
@@ -25,6 +25,8 @@ fn compile(sources: &Path, out: &Path) {
         let object = out.join(name).with_extension("o");
         run(Command::new(&compiler)
             .args(FLAGS)
+            .arg("-I")
+            .arg(include)
             .args(["-fPIC", "-c"])
             .arg(sources.join(name).with_extension("c"))
             .arg("-o")
@@ -37,9 +39,11 @@ fn compile(sources: &Path, out: &Path) {
 fn main() {
     let package = PathBuf::from(env::var("CARGO_MANIFEST_DIR").expect("cargo names the package"));
     let out = PathBuf::from(env::var("OUT_DIR").expect("cargo names the output folder"));
-    compile(&package.join("plain"), &out);
+    let include = package.join("../../include");
+    compile(&package.join("plain"), &include, &out);
     println!("cargo:rustc-link-search=native={}", out.display());
     println!("cargo:rustc-link-lib=static=plain");
     println!("cargo:rerun-if-changed=plain");
+    println!("cargo:rerun-if-changed={}", include.display());
     println!("cargo:rerun-if-env-changed=CC");
 }

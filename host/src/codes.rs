@@ -26,7 +26,7 @@ pub fn chart(bits: u32) -> u8 {
     format
 }
 
-/// What 32 bits mean. Refused with 7.
+/// What 32 bits mean.
 pub fn decode(bits: u32) -> Result<Instruction, Refusal> {
     let mut inst = Instruction::default();
     // SAFETY: as above; an `Instruction` is five numbers in a row.
@@ -34,7 +34,7 @@ pub fn decode(bits: u32) -> Result<Instruction, Refusal> {
     Ok(inst)
 }
 
-/// What 16 bits mean. Refused with 7.
+/// What 16 bits mean.
 pub fn expand(bits: u16) -> Result<Instruction, Refusal> {
     let mut inst = Instruction::default();
     // SAFETY: as above.
@@ -42,7 +42,7 @@ pub fn expand(bits: u16) -> Result<Instruction, Refusal> {
     Ok(inst)
 }
 
-/// The word of an instruction. Refused with 8.
+/// The word of an instruction.
 pub fn encode(inst: Instruction) -> Result<u32, Refusal> {
     let mut bits = 0;
     // SAFETY: as above.
@@ -50,7 +50,7 @@ pub fn encode(inst: Instruction) -> Result<u32, Refusal> {
     Ok(bits)
 }
 
-/// The smallest halfword that stands for an instruction. Refused with 8 and 9.
+/// The smallest halfword that stands for an instruction.
 pub fn shorten(inst: Instruction) -> Result<u16, Refusal> {
     let mut bits = 0;
     // SAFETY: as above.

@@ -1,8 +1,9 @@
 //! A proved emulator for trim recipes: RV32IMC programs that can touch only their own memory and the
 //! 64 one-time words of the part in the socket.
 //!
-//! Every function here hands its arguments to the proved library and puts the answer into Rust's
-//! types. A refusal is an error that carries the paper's number; whatever was lent keeps its bytes.
+//! Every function here hands its arguments to the proved library, which checks them, and puts the
+//! answer into Rust's types. A refusal is an error that carries the paper's number and words and says
+//! which argument is at fault; whatever was lent keeps its bytes.
 //!
 //! ```
 //! use phuyurik::{run, State, Stop, ROW};
@@ -19,7 +20,7 @@ mod raw;
 mod runs;
 mod texts;
 
-pub use answers::{Refusal, Stop};
+pub use answers::{Argument, Refusal, Stop};
 pub use codes::{chart, decode, encode, expand, shorten, Instruction};
 pub use runs::{read_slot, run, run_slot, step, write_slot, State};
 pub use texts::{list, listing, text_of, text_of_half, text_of_word};

@@ -2,10 +2,7 @@
    instructions, so stores over code are seen by the next fetch with no further care. */
 #include "plain.h"
 
-enum {
-    PAUSED, ECALL, EBREAK, ILLEGAL, FETCH_OUTSIDE, LOAD_MISALIGNED, LOAD_OUTSIDE,
-    STORE_MISALIGNED, STORE_OUTSIDE, ALREADY_BURNT, COUNT_FULL
-};
+#include <phuyurik.h> /* the stop numbers */
 
 #define WINDOW 0x80000000u
 #define WINDOW_BYTES 256u
@@ -160,7 +157,7 @@ static uint32_t expand_1(uint32_t h)
     }
 }
 
-/* C.JR, C.MV, C.EBREAK, C.JALR, C.ADD */
+/* C.JR, C.MV, C.PHUYURIK_EBREAK, C.JALR, C.ADD */
 static uint32_t short_register(uint32_t h)
 {
     uint32_t rd = bits(h, 11, 7), rs2 = bits(h, 6, 2), link = bits(h, 12, 12);
@@ -194,20 +191,20 @@ static uint32_t expand(uint32_t h)
     }
 }
 
-/* The operations. Each answers PAUSED, or the stop. */
+/* The operations. Each answers PHUYURIK_PAUSED, or the stop. */
 
 static uint8_t load(const struct lent *lent, uint32_t f3, uint32_t a, uint32_t *value)
 {
     uint32_t n = 1u << (f3 & 3);
     if (f3 == 3 || f3 > 5)
-        return ILLEGAL;
+        return PHUYURIK_ILLEGAL;
     if (a & (n - 1))
-        return LOAD_MISALIGNED;
+        return PHUYURIK_LOAD_MISALIGNED;
     if ((uint64_t)a + n > lent->length) {
         if (f3 != 2 || a - WINDOW >= WINDOW_BYTES)
-            return LOAD_OUTSIDE;
+            return PHUYURIK_LOAD_OUTSIDE;
         *value = read4(lent->row + 2 * (a - WINDOW));
-        return PAUSED;
+        return PHUYURIK_PAUSED;
     }
     switch (f3) {
     case 0: *value = extend(lent->mem[a], 8); break;
@@ -216,7 +213,7 @@ static uint8_t load(const struct lent *lent, uint32_t f3, uint32_t a, uint32_t *
     case 4: *value = lent->mem[a]; break;
     default: *value = read2(lent->mem + a); break;
     }
-    return PAUSED;
+    return PHUYURIK_PAUSED;
 }
 
 /* a is a word of the window */
@@ -224,22 +221,22 @@ static uint8_t burn(uint8_t *row, uint32_t a, uint32_t value)
 {
     uint8_t *record = row + 2 * (a - WINDOW);
     if (record[4])
-        return ALREADY_BURNT;
+        return PHUYURIK_ALREADY_BURNT;
     write4(record, value);
     record[4] = 1;
-    return PAUSED;
+    return PHUYURIK_PAUSED;
 }
 
 static uint8_t store(const struct lent *lent, uint32_t f3, uint32_t a, uint32_t value)
 {
     uint32_t n = 1u << f3;
     if (f3 > 2)
-        return ILLEGAL;
+        return PHUYURIK_ILLEGAL;
     if (a & (n - 1))
-        return STORE_MISALIGNED;
+        return PHUYURIK_STORE_MISALIGNED;
     if ((uint64_t)a + n > lent->length) {
         if (f3 != 2 || a - WINDOW >= WINDOW_BYTES)
-            return STORE_OUTSIDE;
+            return PHUYURIK_STORE_OUTSIDE;
         return burn(lent->row, a, value);
     }
     switch (f3) {
@@ -247,7 +244,7 @@ static uint8_t store(const struct lent *lent, uint32_t f3, uint32_t a, uint32_t 
     case 1: write2(lent->mem + a, value); break;
     default: write4(lent->mem + a, value); break;
     }
-    return PAUSED;
+    return PHUYURIK_PAUSED;
 }
 
 /* `other` chooses sub and sra */
@@ -286,9 +283,9 @@ static uint8_t immediate_operation(uint32_t w, uint32_t a, uint32_t *value)
     uint32_t f3 = bits(w, 14, 12), f7 = w >> 25;
     int shift = f3 == 1 || f3 == 5;
     if (shift && f7 && (f3 == 1 || f7 != 32))
-        return ILLEGAL;
+        return PHUYURIK_ILLEGAL;
     *value = arithmetic(f3, shift && f7, a, shift ? bits(w, 24, 20) : extend(w >> 20, 12));
-    return PAUSED;
+    return PHUYURIK_PAUSED;
 }
 
 static uint8_t register_operation(uint32_t w, uint32_t a, uint32_t b, uint32_t *value)
@@ -299,8 +296,8 @@ static uint8_t register_operation(uint32_t w, uint32_t a, uint32_t b, uint32_t *
     else if (f7 == 0 || (f7 == 32 && (f3 == 0 || f3 == 5)))
         *value = arithmetic(f3, f7 == 32, a, b);
     else
-        return ILLEGAL;
-    return PAUSED;
+        return PHUYURIK_ILLEGAL;
+    return PHUYURIK_PAUSED;
 }
 
 static uint8_t branch(uint32_t w, uint32_t pc, uint32_t a, uint32_t b, uint32_t *next)
@@ -313,12 +310,12 @@ static uint8_t branch(uint32_t w, uint32_t pc, uint32_t a, uint32_t b, uint32_t 
     case 5: taken = (int32_t)a >= (int32_t)b; break;
     case 6: taken = a < b; break;
     case 7: taken = a >= b; break;
-    default: return ILLEGAL;
+    default: return PHUYURIK_ILLEGAL;
     }
     if (taken)
         *next = pc + extend(bits(w, 31, 31) << 12 | bits(w, 7, 7) << 11 | bits(w, 30, 25) << 5
             | bits(w, 11, 8) << 1, 13);
-    return PAUSED;
+    return PHUYURIK_PAUSED;
 }
 
 static uint8_t jump(uint32_t w, uint32_t pc, uint32_t a, struct effect *e)
@@ -327,17 +324,17 @@ static uint8_t jump(uint32_t w, uint32_t pc, uint32_t a, struct effect *e)
     if (bits(w, 3, 3)) {
         e->next = pc + extend(bits(w, 31, 31) << 20 | bits(w, 19, 12) << 12
             | bits(w, 20, 20) << 11 | bits(w, 30, 21) << 1, 21);
-        return PAUSED;
+        return PHUYURIK_PAUSED;
     }
     e->next = (a + extend(w >> 20, 12)) & ~1u;
-    return bits(w, 14, 12) ? ILLEGAL : PAUSED;
+    return bits(w, 14, 12) ? PHUYURIK_ILLEGAL : PHUYURIK_PAUSED;
 }
 
 static uint8_t system_operation(uint32_t w)
 {
     if (w == 0x00000073)
-        return ECALL;
-    return w == 0x00100073 ? EBREAK : ILLEGAL;
+        return PHUYURIK_ECALL;
+    return w == 0x00100073 ? PHUYURIK_EBREAK : PHUYURIK_ILLEGAL;
 }
 
 static uint8_t operation(const struct plain *s, const struct lent *lent, uint32_t w, struct effect *e)
@@ -346,10 +343,10 @@ static uint8_t operation(const struct plain *s, const struct lent *lent, uint32_
     switch (w & 0x7f) {
     case 0x37:
         e->value = w & 0xfffff000;
-        return PAUSED;
+        return PHUYURIK_PAUSED;
     case 0x17:
         e->value = s->pc + (w & 0xfffff000);
-        return PAUSED;
+        return PHUYURIK_PAUSED;
     case 0x6f: case 0x67:
         return jump(w, s->pc, a, e);
     case 0x63:
@@ -366,11 +363,11 @@ static uint8_t operation(const struct plain *s, const struct lent *lent, uint32_
         return register_operation(w, a, b, &e->value);
     case 0x0f:
         e->rd = 0;
-        return f3 ? ILLEGAL : PAUSED;
+        return f3 ? PHUYURIK_ILLEGAL : PHUYURIK_PAUSED;
     case 0x73:
         return system_operation(w);
     default:
-        return ILLEGAL;
+        return PHUYURIK_ILLEGAL;
     }
 }
 
@@ -379,20 +376,20 @@ static uint8_t fetch(const struct lent *lent, uint32_t pc, uint32_t *word, uint3
 {
     uint32_t half;
     if ((uint64_t)pc + 2 > lent->length)
-        return FETCH_OUTSIDE;
+        return PHUYURIK_FETCH_OUTSIDE;
     half = read2(lent->mem + pc);
     if ((half & 31) == 31)
-        return ILLEGAL;
+        return PHUYURIK_ILLEGAL;
     if ((half & 3) != 3) {
         *word = expand(half);
         *length = 2;
-        return *word ? PAUSED : ILLEGAL;
+        return *word ? PHUYURIK_PAUSED : PHUYURIK_ILLEGAL;
     }
     if ((uint64_t)pc + 4 > lent->length)
-        return FETCH_OUTSIDE;
+        return PHUYURIK_FETCH_OUTSIDE;
     *word = read4(lent->mem + pc);
     *length = 4;
-    return PAUSED;
+    return PHUYURIK_PAUSED;
 }
 
 /* a step that stops changes nothing but the stop */
@@ -402,27 +399,27 @@ static uint8_t step(struct plain *s, const struct lent *lent)
     uint32_t word = 0, length = 0;
     uint8_t stop;
     if (s->count == UINT64_MAX)
-        return COUNT_FULL;
+        return PHUYURIK_COUNT_FULL;
     stop = fetch(lent, s->pc, &word, &length);
-    if (stop != PAUSED)
+    if (stop != PHUYURIK_PAUSED)
         return stop;
     e.next = s->pc + length;
     e.rd = bits(word, 11, 7);
     stop = operation(s, lent, word, &e);
-    if (stop != PAUSED)
+    if (stop != PHUYURIK_PAUSED)
         return stop;
     if (e.rd)
         s->x[e.rd] = e.value;
     s->pc = e.next;
     s->count++;
-    return PAUSED;
+    return PHUYURIK_PAUSED;
 }
 
 uint64_t plain_run(struct plain *s, uint8_t *mem, size_t length, uint8_t *row, uint64_t budget)
 {
     const struct lent lent = {mem, length, row};
     const uint64_t start = s->count;
-    while (s->stop == PAUSED && s->count - start < budget)
+    while (s->stop == PHUYURIK_PAUSED && s->count - start < budget)
         s->stop = step(s, &lent);
     return s->count - start;
 }

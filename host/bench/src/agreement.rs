@@ -1,5 +1,6 @@
 //! The plain C interpreter against the proved emulator, on short runs of random programs.
 use crate::plain;
+use phuyurik::Stop;
 use testing::Random;
 
 /// Mostly legal and near: random bits with an opcode, a sound funct7, a short way to go.
@@ -74,12 +75,13 @@ fn state(random: &mut Random, length: usize) -> phuyurik::State {
     let far = random.word();
     let low = random.below(1000);
     let full = u64::MAX - random.below(4);
+    let stopped = Stop::AlreadyBurnt.number();
     let mostly = |random: &mut Random| random.below(32) > 0;
     phuyurik::State {
         pc: if mostly(random) { near } else { far } & !1,
         x: [(); 31].map(|()| value(random, length)),
         count: if mostly(random) { low } else { full },
-        stop: if mostly(random) { 0 } else { 9 },
+        stop: if mostly(random) { 0 } else { stopped },
     }
 }
 
@@ -111,7 +113,7 @@ fn compare(mut s: phuyurik::State, memory: &[u8], row: &[u8], budget: u64) -> (u
 #[test]
 fn random_programs_end_alike() {
     let mut random = Random::new(1);
-    let (mut stops, mut steps) = ([0; 11], 0);
+    let (mut stops, mut steps) = ([0; Stop::ALL.len()], 0);
     for _ in 0..40_000 {
         let memory = program(&mut random);
         let row = row(&mut random);

@@ -4,23 +4,24 @@
 use crate::scene::{self, Entry, Scene};
 use crate::tally::{Check, Difference, Tally};
 use crate::{program, texts, words};
-use phuyurik::RECORD;
+use phuyurik::Argument::{self, Memory, Row, Slots, State};
+use phuyurik::{Refusal, Stop, RECORD};
 use testing::Random;
 
 pub fn round(tally: &mut Tally, random: &mut Random) -> Check {
-    let entries: [(Entry, &[u32]); 5] = [
-        (Entry::Step, &[1, 2, 3, 5]),
-        (Entry::Run, &[1, 2, 3, 5]),
-        (Entry::WriteSlot, &[4, 5]),
-        (Entry::ReadSlot, &[4, 5]),
-        (Entry::RunSlot, &[1, 2, 3, 4, 5]),
+    let entries: [(Entry, &[Argument]); 5] = [
+        (Entry::Step, &[Memory, Row, State]),
+        (Entry::Run, &[Memory, Row, State]),
+        (Entry::WriteSlot, &[Slots, State]),
+        (Entry::ReadSlot, &[Slots, State]),
+        (Entry::RunSlot, &[Memory, Row, Slots, State]),
     ];
-    for (entry, refusals) in entries {
-        for set in 0..1_u32 << refusals.len() {
+    for (entry, arguments) in entries {
+        for set in 0..1_u32 << Refusal::of(arguments).count() {
             let chosen = (0..)
-                .zip(refusals)
+                .zip(Refusal::of(arguments))
                 .filter(|(place, _)| set >> place & 1 == 1);
-            let faults: Vec<u32> = chosen.map(|(_, refusal)| *refusal).collect();
+            let faults: Vec<Refusal> = chosen.map(|(_, refusal)| refusal).collect();
             malformed(tally, random, entry, &faults)?;
         }
     }
@@ -30,14 +31,14 @@ pub fn round(tally: &mut Tally, random: &mut Random) -> Check {
     Ok(())
 }
 
-fn malformed(tally: &mut Tally, random: &mut Random, entry: Entry, faults: &[u32]) -> Check {
+fn malformed(tally: &mut Tally, random: &mut Random, entry: Entry, faults: &[Refusal]) -> Check {
     let mut scene = scene::sound(random);
     // the row's record before its length, so that a longer row keeps the bad record
     for fault in faults.iter().rev() {
         spoil(random, &mut scene, *fault);
     }
     let answer = scene::compare(tally, entry, &scene)?.answer;
-    if answer.err() == faults.first().copied() {
+    if answer.err() == faults.first().map(|lowest| lowest.number()) {
         return Ok(());
     }
     Err(Difference(format!(
@@ -45,20 +46,23 @@ fn malformed(tally: &mut Tally, random: &mut Random, entry: Entry, faults: &[u32
     )))
 }
 
-/// Makes a scene such that the entries which look there refuse it with this number.
-fn spoil(random: &mut Random, scene: &mut Scene, refusal: u32) {
+/// Makes a scene such that the entries which look there refuse it so.
+fn spoil(random: &mut Random, scene: &mut Scene, refusal: Refusal) {
     match refusal {
-        1 => scene.mem.resize(random.length(65_537, 65_600), 0),
-        2 => scene
+        Refusal::MemoryTooLong => scene.mem.resize(random.length(65_537, 65_600), 0),
+        Refusal::RowLength => scene
             .row
             .resize(random.pick(&[0, 8, 504, 511, 513, 520, 1024]), 0),
-        3 => spoil_row_record(random, &mut scene.row),
-        4 => spoil_slots(random, scene),
-        _ => {
+        Refusal::RowRecord => spoil_row_record(random, &mut scene.row),
+        Refusal::Slot => spoil_slots(random, scene),
+        Refusal::State => {
             spoil_state(random, scene);
             for record in scene.slots.chunks_exact_mut(RECORD) {
                 spoil_record(random, record);
             }
+        }
+        Refusal::Room | Refusal::NoInstruction | Refusal::Field | Refusal::NoShortForm => {
+            unreachable!("a scene has no room, bits or instruction")
         }
     }
 }
@@ -99,14 +103,18 @@ fn spoil_state(random: &mut Random, scene: &mut Scene) {
     if random.once_in(2) {
         scene.state.pc |= 1;
     } else {
-        scene.state.stop = random.length(11, 255) as u8;
+        scene.state.stop = no_stop(random);
     }
+}
+
+fn no_stop(random: &mut Random) -> u8 {
+    random.length(Stop::ALL.len(), 255) as u8
 }
 
 fn spoil_record(random: &mut Random, record: &mut [u8]) {
     match random.below(3) {
         0 => record[0] |= 1,
-        1 => record[136] = random.length(11, 255) as u8,
+        1 => record[136] = no_stop(random),
         _ => record[random.length(137, 143)] = random.length(1, 255) as u8,
     }
 }

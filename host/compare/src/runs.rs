@@ -2,7 +2,7 @@
 
 use crate::scene::{self, compare, Entry, Scene};
 use crate::tally::{Check, Difference, Tally};
-use phuyurik::RECORD;
+use phuyurik::{Stop, RECORD};
 use second::op;
 use testing::Random;
 
@@ -204,7 +204,7 @@ fn slots(tally: &mut Tally, random: &mut Random) -> Check {
     }
     if random.once_in(4) {
         scene.state.pc = random.word();
-        scene.state.stop = random.below(14) as u8;
+        scene.state.stop = random.below(Stop::ALL.len() as u64 + 3) as u8;
     }
     if random.once_in(4) {
         scene.k = random.pick(&[0, 1, 2, 3, 4, usize::MAX, 1 << 60, 1 << 63]);

@@ -3,7 +3,7 @@
 use crate::lent::Lent;
 use crate::program::{self, Temper};
 use crate::tally::{first_other, Difference, Tally};
-use phuyurik::{RECORD, ROW};
+use phuyurik::{Stop, RECORD, ROW};
 use second::State;
 use testing::Random;
 
@@ -259,7 +259,7 @@ pub fn state(random: &mut Random, length: usize) -> State {
         stop: 0,
     };
     if random.once_in(16) {
-        state.stop = random.below(11) as u8;
+        state.stop = random.below(Stop::ALL.len() as u64) as u8;
     }
     for value in &mut state.x {
         *value = program::value(random, length);

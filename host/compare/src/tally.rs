@@ -1,5 +1,6 @@
 //! What was compared, and what was reached by it.
 
+use phuyurik::{Refusal, Stop};
 use std::fmt::Debug;
 
 /// What differed, in words.
@@ -12,9 +13,9 @@ pub struct Tally {
     pub comparisons: u64,
     pub steps: u64,
     /// How often a paused state came to each stop.
-    pub stops: [u64; 11],
+    pub stops: [u64; Stop::ALL.len()],
     /// How often each refusal was answered; the first place stays 0.
-    pub refusals: [u64; 10],
+    pub refusals: [u64; Refusal::ALL.len() + 1],
 }
 
 impl Tally {
@@ -64,11 +65,11 @@ impl Tally {
     pub fn same_answer<T: PartialEq + Debug>(
         &mut self,
         call: impl FnOnce() -> String,
-        proved: Result<T, phuyurik::Refusal>,
+        proved: Result<T, Refusal>,
         second: Result<T, u32>,
     ) -> Check {
         self.note_refusal(&second);
-        self.same(call, proved.map_err(phuyurik::Refusal::number), second)
+        self.same(call, proved.map_err(Refusal::number), second)
     }
 
     pub fn note_refusal<T>(&mut self, answer: &Result<T, u32>) {
@@ -94,8 +95,10 @@ impl Tally {
         let (comparisons, steps) = (grouped(self.comparisons), grouped(self.steps));
         format!(
             "compare: {comparisons} comparisons ({steps} steps), {differences} differences, \
-             seed {seed}, stops 0-10 reached: {}, refusals 1-9 reached: {}",
+             seed {seed}, stops 0-{} reached: {}, refusals 1-{} reached: {}",
+            self.stops.len() - 1,
             counts(&self.stops),
+            self.refusals.len() - 1,
             counts(&self.refusals[1..])
         )
     }
@@ -146,8 +149,8 @@ mod tests {
     #[test]
     fn what_was_never_reached_is_missing() {
         let mut tally = Tally {
-            stops: [1; 11],
-            refusals: [0, 1, 1, 1, 1, 1, 1, 1, 1, 1],
+            stops: [1; Stop::ALL.len()],
+            refusals: [1; Refusal::ALL.len() + 1],
             ..Tally::default()
         };
         assert!(tally.missing().is_empty());

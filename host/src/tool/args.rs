@@ -10,7 +10,7 @@ pub const PIECE: u64 = 5_000_000;
 
 #[derive(Debug, PartialEq)]
 pub enum Command {
-    Help(&'static str),
+    Help(String),
     Version,
     Run(Order),
     List(PathBuf),
@@ -45,17 +45,17 @@ pub fn parse(words: Vec<OsString>) -> Result<Command, Error> {
         return wrong("no command");
     };
     if is(&command, &["--help", "-h", "help"]) {
-        return Ok(Command::Help(help::PROGRAM));
+        return Ok(Command::Help(help::PROGRAM.text()));
     }
     if is(&command, &["--version", "-V"]) {
         return Ok(Command::Version);
     }
     let name = command.to_string_lossy();
-    let Some((_, text)) = help::COMMANDS.iter().find(|(known, _)| *known == name) else {
+    let Some(help) = help::COMMANDS.iter().find(|help| help.command == name) else {
         return wrong(format!("no command {name:?}"));
     };
     if words.iter().any(|word| is(word, &["--help", "-h"])) {
-        return Ok(Command::Help(text));
+        return Ok(Command::Help(help.text()));
     }
     match &*name {
         "run" => run(words),
@@ -186,8 +186,9 @@ mod tests {
             other => panic!("{line}: {other:?}"),
         };
         let program = help("--help");
-        for (name, text) in help::COMMANDS {
-            assert_eq!(help(&format!("{name} --help")), *text);
+        for known in help::COMMANDS {
+            let (name, text) = (known.command, known.text());
+            assert_eq!(help(&format!("{name} --help")), text);
             assert!(text.starts_with(&format!("Usage: phuyurik {name}")));
             assert!(text.contains("\nExample") && text.contains("\nExit codes"));
             assert!(program.contains(&format!("\n  {name} ")));

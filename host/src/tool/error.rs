@@ -25,9 +25,13 @@ impl Error {
             Error::Fact(_) => 1,
             Error::Usage(_) => 2,
             Error::File(..) => 3,
-            Error::Refused(_, refusal) => 30 + *refusal as u8,
+            Error::Refused(_, refusal) => refusal_code(*refusal),
         }
     }
+}
+
+pub fn refusal_code(refusal: Refusal) -> u8 {
+    30 + refusal.number() as u8
 }
 
 impl fmt::Display for Error {

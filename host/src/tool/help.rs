@@ -1,29 +1,71 @@
-//! The help texts.
+//! The help texts. The exit codes at the end of each come from the lists of stops and refusals.
+use super::error::refusal_code;
+use super::show::{stop_code, stop_text};
+use phuyurik::Argument::{self, Memory, Row, Slots, State};
+use phuyurik::{Refusal, Stop};
 
-macro_rules! with_codes {
-    ($text:literal) => {
-        concat!(
-            $text,
-            "
-Exit codes:
-  0         done: stopped by ecall, or paused because the budget is used up
-  1         demo only: a fact was not as the paper has it
-  2         wrong usage
-  3         a file is missing, locked, damaged, of another run, or cannot be
-            read or written
-  12 to 20  stopped: 10 + the stop number (12 ebreak, 13 illegal instruction,
-            14 fetch outside, 15 load misaligned, 16 load outside,
-            17 store misaligned, 18 store outside, 19 word already burnt,
-            20 count full)
-  31 to 35  refused: 30 + the refusal number (31 memory too long,
-            32 row not 512 bytes, 33 row record, 34 slot, 35 state)
-"
-        )
-    };
+const COLUMNS: usize = 80;
+const FILES: &str =
+    "a file is missing, locked, damaged, of another run, or cannot be read or written";
+
+/// A text, and what there is for the exit code to tell.
+pub struct Help {
+    pub command: &'static str,
+    about: &'static str,
+    /// It runs a recipe, which comes to a stop.
+    runs: bool,
+    /// It compares what it sees with the paper.
+    compares: bool,
+    /// What it lends to the library, which may refuse it.
+    lends: &'static [Argument],
 }
 
-pub const PROGRAM: &str = with_codes!(
-    "Usage: phuyurik COMMAND ...
+impl Help {
+    pub fn text(&self) -> String {
+        format!("{}\nExit codes:\n{}", self.about, self.codes())
+    }
+
+    fn codes(&self) -> String {
+        let mut text = match self.runs {
+            true => line(0, "done: ecall, or paused because the budget is used up"),
+            false => line(0, "done"),
+        };
+        if self.compares {
+            text += &line(1, "demo: a fact was not as the paper has it");
+        }
+        text += &line(2, "wrong usage");
+        text += &line(3, FILES);
+        if self.runs {
+            for stop in Stop::ALL.iter().filter(|stop| stop_code(**stop) > 0) {
+                text += &line(stop_code(*stop), &stop_text(*stop));
+            }
+        }
+        for refusal in Refusal::of(self.lends) {
+            text += &line(refusal_code(refusal), &refusal.to_string());
+        }
+        text
+    }
+}
+
+/// A code and its meaning; what would pass the last column goes on in a new line.
+fn line(code: u8, meaning: &str) -> String {
+    let mut text = format!("  {code:<3}");
+    let mut column = text.len();
+    for word in meaning.split(' ') {
+        if column + 1 + word.len() > COLUMNS {
+            text += "\n     ";
+            column = 5;
+        }
+        text += &format!(" {word}");
+        column += 1 + word.len();
+    }
+    text + "\n"
+}
+
+pub const PROGRAM: Help = Help {
+    command: "",
+    about: "\
+Usage: phuyurik COMMAND ...
 
 Runs trim recipes (RV32IMC programs) on a part's row of 64 one-time words.
 A run that was cut off, by its budget, a kill or a power cut, is carried on
@@ -40,11 +82,16 @@ Commands:
 
 Example:
   phuyurik run trim.bin --row part.row --slots line.slots --slot 0 --budget 1000
-"
-);
+",
+    runs: true,
+    compares: true,
+    lends: &[Memory, Row, Slots, State],
+};
 
-const RUN: &str = with_codes!(
-    "Usage: phuyurik run IMAGE --row FILE --slots FILE --slot K --budget N
+const RUN: Help = Help {
+    command: "run",
+    about: "\
+Usage: phuyurik run IMAGE --row FILE --slots FILE --slot K --budget N
                     [--resume] [--piece N]
 
 Runs the recipe IMAGE for at most N steps on the part whose row is in FILE,
@@ -74,59 +121,77 @@ Do not move them: a run knows its row by the path.
 
 Example:
   phuyurik run trim.bin --row part.row --slots line.slots --slot 0 --budget 1000
-  phuyurik run trim.bin --row part.row --slots line.slots --slot 0 --budget 1000 --resume
-"
-);
+  phuyurik run trim.bin --row part.row --slots line.slots --slot 0 \\
+      --budget 1000 --resume
+",
+    runs: true,
+    compares: false,
+    lends: &[Memory, Row, Slots, State],
+};
 
-const LIST: &str = with_codes!(
-    "Usage: phuyurik list IMAGE
+const LIST: Help = Help {
+    command: "list",
+    about: "\
+Usage: phuyurik list IMAGE
 
 Lists the instructions of IMAGE: address, bits, text. Bits that are no
 instruction have a question mark. An image over 65,536 bytes gives `too long`.
 
 Example:
   phuyurik list trim.bin
-"
-);
+",
+    runs: false,
+    compares: false,
+    lends: &[],
+};
 
-const ROW: &str = with_codes!(
-    "Usage: phuyurik row FILE
+const ROW: Help = Help {
+    command: "row",
+    about: "\
+Usage: phuyurik row FILE
 
 Shows the burnt words of a row: index, address, value in decimal and in
 hexadecimal; then how many words are burnt and how many blank.
 
 Example:
   phuyurik row part.row
-"
-);
+",
+    runs: false,
+    compares: false,
+    lends: &[Row],
+};
 
-const SLOT: &str = with_codes!(
-    "Usage: phuyurik slot FILE K
+const SLOT: Help = Help {
+    command: "slot",
+    about: "\
+Usage: phuyurik slot FILE K
 
 Shows the state in slot K: pc, the registers that are not 0, the count of
 retired steps, and the stop.
 
 Example:
   phuyurik slot line.slots 0
-"
-);
+",
+    runs: false,
+    compares: false,
+    lends: &[Slots, State],
+};
 
-const DEMO: &str = with_codes!(
-    "Usage: phuyurik demo
+const DEMO: Help = Help {
+    command: "demo",
+    about: "\
+Usage: phuyurik demo
 
 Lists the paper's recipe, runs it on a blank row, shows the row, and starts it
-anew on that row: it stops with 9, and no word is burnt twice. Works in a new
-folder under the system's temporary folder, and removes it.
+anew on that row: it stops, and no word is burnt twice. Works in a new folder
+under the system's temporary folder, and removes it.
 
 Example:
   phuyurik demo
-"
-);
+",
+    runs: false,
+    compares: true,
+    lends: &[],
+};
 
-pub const COMMANDS: &[(&str, &str)] = &[
-    ("run", RUN),
-    ("list", LIST),
-    ("row", ROW),
-    ("slot", SLOT),
-    ("demo", DEMO),
-];
+pub const COMMANDS: &[Help] = &[RUN, LIST, ROW, SLOT, DEMO];

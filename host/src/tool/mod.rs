@@ -44,7 +44,7 @@ pub fn main(words: Vec<OsString>) -> ExitCode {
 
 fn answer(words: Vec<OsString>) -> Result<Answer, Error> {
     match args::parse(words)? {
-        Command::Help(text) => Ok(Answer::good(text.to_string())),
+        Command::Help(text) => Ok(Answer::good(text)),
         Command::Version => Ok(Answer::good(format!(
             "phuyurik {}\n",
             env!("CARGO_PKG_VERSION")
@@ -57,7 +57,7 @@ fn answer(words: Vec<OsString>) -> Result<Answer, Error> {
             let done = run::run(&order, &mut run::Terminal::new())?;
             Ok(Answer {
                 text: show::facts(&done),
-                code: show::exit_code(done.state.stop),
+                code: show::stop_code(show::stop_of(&done.state)),
             })
         }
     }

@@ -4,7 +4,7 @@ use super::error::Error;
 use super::files;
 use super::journal::{self, ImageMark, Locks, Memory, Moment};
 use super::sealed::digest;
-use phuyurik::{read_slot, run_slot, Refusal, State, LONGEST_MEMORY, RECORD, ROW};
+use phuyurik::{read_slot, run_slot, Argument, Refusal, State, LONGEST_MEMORY, RECORD, ROW};
 use std::collections::BTreeSet;
 use std::io::{IsTerminal, Write};
 use std::path::{Path, PathBuf};
@@ -129,9 +129,9 @@ impl Job<'_> {
     }
 
     fn refused(&self, refusal: Refusal) -> Error {
-        let path: &Path = match refusal {
-            Refusal::MemoryTooLong => &self.order.image,
-            Refusal::RowLength | Refusal::RowRecord => &self.row_path,
+        let path: &Path = match refusal.argument() {
+            Argument::Memory => &self.order.image,
+            Argument::Row => &self.row_path,
             _ => &self.slots_path,
         };
         Error::Refused(path.to_path_buf(), refusal)

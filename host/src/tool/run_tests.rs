@@ -3,7 +3,7 @@ use super::args::Order;
 use super::files::{self, Action};
 use super::journal::{ImageMark, Moment};
 use super::run::{run, Watch};
-use super::show::exit_code;
+use super::show::{stop_code, stop_of};
 use phuyurik::{State, RECORD, ROW};
 use testing::Folder;
 
@@ -74,7 +74,7 @@ fn a_full_count_is_20() {
         (done.retired, done.state.count, done.state.stop),
         (2, u64::MAX, 10)
     );
-    assert_eq!(exit_code(done.state.stop), 20);
+    assert_eq!(stop_code(stop_of(&done.state)), 20);
 }
 
 #[test]

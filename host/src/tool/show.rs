@@ -69,19 +69,22 @@ pub fn slot_text(state: &State) -> String {
             text += &format!("x{} {}\n", at + 1, both(*value));
         }
     }
-    text + &format!("count {}\n{}\n", state.count, stop_text(state.stop))
+    text + &format!("count {}\n{}\n", state.count, stop_text(stop_of(state)))
 }
 
-fn stop_text(number: u8) -> String {
-    let stop = Stop::from_number(number).expect("the library gave a state that is not malformed");
-    format!("stop {number}: {stop}")
+pub fn stop_of(state: &State) -> Stop {
+    Stop::from_number(state.stop).expect("the library gave a state that is not malformed")
+}
+
+pub fn stop_text(stop: Stop) -> String {
+    format!("stop {}: {stop}", stop.number())
 }
 
 /// 0 for ecall and for a pause, which was asked for by the budget.
-pub fn exit_code(stop: u8) -> u8 {
+pub fn stop_code(stop: Stop) -> u8 {
     match stop {
-        0 | 1 => 0,
-        _ => 10 + stop,
+        Stop::Paused | Stop::Ecall => 0,
+        _ => 10 + stop.number(),
     }
 }
 
@@ -89,7 +92,7 @@ pub fn facts(done: &Outcome) -> String {
     let state = &done.state;
     let mut text = format!("retired {} in this run\n", done.retired);
     text += &format!("count {}\n", state.count);
-    text += &format!("{}\n", stop_text(state.stop));
+    text += &format!("{}\n", stop_text(stop_of(state)));
     text += &format!("pc {}\n", both(state.pc));
     text += &match done.burnt.len() {
         0 => "no word burnt in this run\n".to_string(),
