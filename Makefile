@@ -1,5 +1,5 @@
 # make demo: builds the proved library and shows it at work; make test: the gate
-.PHONY: demo test bench soak peers archive
+.PHONY: demo test bench soak peers house archive
 
 # the proved library for C and Rust: target/staticlib/libphuyurik.a
 archive:
@@ -25,3 +25,7 @@ soak: archive
 # against binutils, LLVM and qemu; needs the network
 peers: archive
 	@PHUYURIK_ARCHIVE=../target/staticlib ./host/peers/peers.sh
+
+# docs/HOUSE.md, what each crate is and which uses which, from crates.txt
+house:
+	@mkdir -p target; ./docs/house.sh >target/HOUSE.md && cp target/HOUSE.md docs/HOUSE.md

@@ -1,10 +1,11 @@
--- What a load or a store comes to, on main memory m and the fuse row f.
+-- What a load or a store comes to, on the board b: main memory and the fuse row.
 use Prim.Native.Nat.{ℕ}
 use mathlib.Core.Bool.{cond}
 use mathlib.Core.List.{List}
 use lib.ListN.{length}
 use lib.Dec.{eqb}
 use Rattle.word.specs.Bits.{sext}
+use Rattle.answers.specs.Outcomes.{Outcome, outcome}
 use Rattle.answers.specs.declared.Stop.the-variants.{LoadMisaligned, LoadOutside, StoreMisaligned, StoreOutside, AlreadyBurnt}
 use Rattle.isa.specs.declared.Reg.{Reg}
 use Rattle.isa.specs.declared.LoadOp.{LoadOp}
@@ -19,18 +20,14 @@ use Rattle.octets.specs.declared.Width.the-variants.{One, Two, Four}
 use Rattle.place.specs.Map.{placed}
 use Rattle.place.specs.declared.Place.{Place}
 use Rattle.place.specs.declared.Place.the-variants.{Memory, Fuse, Misaligned, Outside}
-use Rattle.part.specs.Row.{valueAt, markAt, burnt}
+use Rattle.fuses.specs.Row.{valueAt, markAt, burnt}
+use Rattle.boards.specs.Boards.{Board, board}
 use Rattle.access.specs.declared.Effect.{Effect}
 use Rattle.access.specs.declared.Effect.the-variants.{Next, Halt}
 
 -- what an instruction comes to: its effect, and memory and row after it
-pub record Done : Type 0 where
-  pub effect : Effect
-  pub mem : List ℕ
-  pub row : List ℕ
-
-abbrev pub done : Effect → List ℕ → List ℕ → Done
-done e m f = record { effect = e; mem = m; row = f }
+abbrev pub Done : Type 0
+Done = Outcome Effect Board
 
 -- ---- loads
 
@@ -50,14 +47,18 @@ extended Lbu v = v
 extended Lhu v = v
 
 -- rd gets what is at the place, and the next instruction is at next
-unfoldable pub loadedFrom : Place → LoadOp → Reg → ℕ → List ℕ → List ℕ → Effect
-loadedFrom (Memory i) o rd next m f = Next rd (extended o (load (widthBytes (loadWidth o)) i m)) next
-loadedFrom (Fuse k) o rd next m f = Next rd (valueAt k f) next
-loadedFrom Misaligned o rd next m f = Halt LoadMisaligned
-loadedFrom Outside o rd next m f = Halt LoadOutside
+unfoldable pub loadedFrom : Place → LoadOp → Reg → ℕ → Board → Effect
+loadedFrom (Memory i) o rd next b = Next rd (extended o (load (widthBytes (loadWidth o)) i (b .mem))) next
+loadedFrom (Fuse k) o rd next b = Next rd (valueAt k (b .row)) next
+loadedFrom Misaligned o rd next b = Halt LoadMisaligned
+loadedFrom Outside o rd next b = Halt LoadOutside
 
-abbrev pub loaded : LoadOp → Reg → ℕ → ℕ → List ℕ → List ℕ → Effect
-loaded o rd a next m f = loadedFrom (placed (widthBytes (loadWidth o)) a (length m)) o rd next m f
+-- the place of the address a
+abbrev pub loadPlace : LoadOp → ℕ → Board → Place
+loadPlace o a b = placed (widthBytes (loadWidth o)) a (length (b .mem))
+
+abbrev pub loaded : LoadOp → Reg → ℕ → ℕ → Board → Effect
+loaded o rd a next b = loadedFrom (loadPlace o a b) o rd next b
 
 -- ---- stores
 
@@ -66,12 +67,23 @@ storeWidth Sb = One
 storeWidth Sh = Two
 storeWidth Sw = Four
 
--- v goes to the place: into memory, or burnt into a blank word. A store writes no register: x0 drops the 0
-unfoldable pub storedTo : Place → StoreOp → ℕ → ℕ → List ℕ → List ℕ → Done
-storedTo (Memory i) o v next m f = done (Next x0 0 next) (store (widthBytes (storeWidth o)) i v m) f
-storedTo (Fuse k) o v next m f = cond (eqb (markAt k f) 0) (done (Next x0 0 next) m (burnt k v f)) (done (Halt AlreadyBurnt) m f)
-storedTo Misaligned o v next m f = done (Halt StoreMisaligned) m f
-storedTo Outside o v next m f = done (Halt StoreOutside) m f
+-- a store that is done writes no register, for x0 drops the 0; the next instruction is at next
+abbrev pub onTo : ℕ → Effect
+onTo next = Next x0 0 next
 
-abbrev pub stored : StoreOp → ℕ → ℕ → ℕ → List ℕ → List ℕ → Done
-stored o v a next m f = storedTo (placed (widthBytes (storeWidth o)) a (length m)) o v next m f
+-- to word k of the row f: a blank word is burnt with v
+unfoldable pub storedWord : ℕ → ℕ → ℕ → List ℕ → Outcome Effect (List ℕ)
+storedWord k v next f = cond (eqb (markAt k f) 0) (outcome (onTo next) (burnt k v f)) (outcome (Halt AlreadyBurnt) f)
+
+-- v goes to the place
+unfoldable pub storedTo : Place → StoreOp → ℕ → ℕ → Board → Done
+storedTo (Memory i) o v next b = outcome (onTo next) (board (store (widthBytes (storeWidth o)) i v (b .mem)) (b .row))
+storedTo (Fuse k) o v next b = outcome (storedWord k v next (b .row) .answer) (board (b .mem) (storedWord k v next (b .row) .lent))
+storedTo Misaligned o v next b = outcome (Halt StoreMisaligned) b
+storedTo Outside o v next b = outcome (Halt StoreOutside) b
+
+abbrev pub storePlace : StoreOp → ℕ → Board → Place
+storePlace o a b = placed (widthBytes (storeWidth o)) a (length (b .mem))
+
+abbrev pub stored : StoreOp → ℕ → ℕ → ℕ → Board → Done
+stored o v a next b = storedTo (storePlace o a b) o v next b

@@ -1,5 +1,8 @@
 // Loads and stores: where the access lies, and what it does there.
 use answers::Stop;
+use fuses::burn;
+use fuses::is_burnt;
+use fuses::value_of;
 use isa::LoadOp;
 use isa::Reg;
 use isa::StoreOp;
@@ -7,19 +10,18 @@ use octets::Width;
 use octets::load1;
 use octets::load2;
 use octets::load4;
-use part::burn;
-use part::is_burnt;
-use part::value_of;
 use place::Place;
 use place::place_of;
 use stores::store_of;
 use word::sign_extend;
 ghost use mathlib.Core.Path.{_≡_};
-ghost use Prim.Native.Nat.{_+_, _≤_};
+ghost use Prim.Native.Nat.{_+_, _≤_, _<_};
 ghost use lib.ListN.{length};
 ghost use Rattle.octets.specs.Bytes.{load};
 ghost use Rattle.octets.specs.Widths.{widthBytes};
-ghost use Rattle.access.specs.Accesses.{done, loadWidth, extended, loaded, storeWidth, stored};
+ghost use Rattle.answers.specs.Outcomes.{outcome};
+ghost use Rattle.boards.specs.Boards.{board};
+ghost use Rattle.access.specs.Accesses.{loadWidth, extended, loaded, onTo, storeWidth, storedWord, stored};
 
 // What an instruction does: a register gets a value and the next instruction is at pc, or the run stops.
 pub enum Effect {
@@ -66,7 +68,7 @@ fn extended_load(op: LoadOp, mem: &[u8], at: usize) -> u32
 // A load into rd from an address, before the instruction at next.
 pub fn load(op: LoadOp, rd: Reg, address: u32, next: u32, mem: &[u8], row: &[u8]) -> Effect
     requires { ⌜ length (now row) ≡ 512 ⌝ }
-    ensures { λ r. ⌜ r ≡ loaded op rd address next (now (mem .entry)) (now (row .entry)) ⌝ }
+    ensures { λ r. ⌜ r ≡ loaded op rd address next (board (now (mem .entry)) (now (row .entry))) ⌝ }
 {
     let place = place_of(address, load_width(op), mem.len());
     match place {
@@ -85,32 +87,43 @@ pub fn load(op: LoadOp, rd: Reg, address: u32, next: u32, mem: &[u8], row: &[u8]
     }
 }
 
+// A store that is done writes no register, and the next instruction is at next.
+fn on_to(next: u32) -> Effect
+    ensures { λ r. ⌜ r ≡ onTo next ⌝ }
+{
+    Effect::Next {
+        rd: Reg::ZERO,
+        value: 0,
+        pc: next,
+    }
+}
+
+// A store of v to word k of the row.
+fn store_word(row: &mut [u8], k: usize, v: u32, next: u32) -> Effect
+    requires { ⌜ k < 64 ⌝ }
+    requires { ⌜ length (now row) ≡ 512 ⌝ }
+    ensures { λ r. ⌜ outcome r (now (row .exit)) ≡ storedWord k v next (now (row .entry)) ⌝ }
+{
+    if is_burnt(row, k) {
+        return Effect::Halt(Stop::AlreadyBurnt);
+    }
+    burn(row, k, v);
+    on_to(next)
+}
+
 // A store of v at an address, before the instruction at next.
 pub fn store(op: StoreOp, v: u32, address: u32, next: u32, mem: &mut [u8], row: &mut [u8]) -> Effect
     requires { ⌜ length (now row) ≡ 512 ⌝ }
-    ensures { λ r. ⌜ done r (now (mem .exit)) (now (row .exit)) ≡ stored op v address next (now (mem .entry)) (now (row .entry)) ⌝ }
+    ensures { λ r. ⌜ outcome r (board (now (mem .exit)) (now (row .exit))) ≡ stored op v address next (board (now (mem .entry)) (now (row .entry))) ⌝ }
 {
-    let place = place_of(address, store_width(op), mem.len());
+    let width = store_width(op);
+    let place = place_of(address, width, mem.len());
     match place {
         Place::Memory(at) => {
-            store_of(mem, at, store_width(op), v);
-            Effect::Next {
-                rd: Reg::ZERO,
-                value: 0,
-                pc: next,
-            }
+            store_of(mem, at, width, v);
+            on_to(next)
         }
-        Place::Fuse(k) => {
-            if is_burnt(row, k) {
-                return Effect::Halt(Stop::AlreadyBurnt);
-            }
-            burn(row, k, v);
-            Effect::Next {
-                rd: Reg::ZERO,
-                value: 0,
-                pc: next,
-            }
-        }
+        Place::Fuse(k) => store_word(row, k, v, next),
         Place::Misaligned => Effect::Halt(Stop::StoreMisaligned),
         Place::Outside => Effect::Halt(Stop::StoreOutside),
     }

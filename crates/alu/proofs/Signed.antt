@@ -21,17 +21,17 @@ held h e = rw e (toZ-ofZ h)
 shifts : (w : Width) (m : ℕ) {z : ℤ} → SFits w z → SFits w (shrZ z m)
 shifts w m {z} h = record { sfits = lt-of-le-of-lt (mag-shr z m) (h .sfits) }
 
--- 64 bits that are below 2 ^ 32 read as themselves
+-- 64 bits that are product-below 2 ^ 32 read as themselves
 pub low-plain : {n : ℕ} → n < 2 ^ 32 → toZ w64 n ≡ pos n
 low-plain h = toZ-pos w64 (omega arith)
 
 -- ---- a register's value as an operand
 module _ {a : ℕ} (h : Fits w32 a) where
-  pub signed-fits : SFits w32 (signed 32 a)
-  signed-fits = sfits-toZ h
+  pub signed-in-range : SFits w32 (signed 32 a)
+  signed-in-range = sfits-toZ h
 
   pub operand : SFits w64 (signed 32 a)
-  operand = sfits-widen tt signed-fits
+  operand = sfits-widen tt signed-in-range
 
   plain : SFits w64 (pos a)
   plain = omega arith
@@ -43,7 +43,7 @@ module _ {a : ℕ} (h : Fits w32 a) where
   at-plain = held plain
 
   signed-abs : natAbs (signed 32 a) ≤ 2 ^ 31
-  signed-abs = natAbs-le (signed 32 a) (signed-fits .sfits)
+  signed-abs = natAbs-le (signed 32 a) (signed-in-range .sfits)
 
   pub signed-small : natAbs (signed 32 a) < 2 ^ 32
   signed-small = lt-of-le-of-lt signed-abs (lit< tt)
@@ -51,10 +51,10 @@ module _ {a : ℕ} (h : Fits w32 a) where
 -- ---- a register's value, shifted right
 module _ {a : ℕ} (h : Fits w32 a) (m : ℕ) where
   pub shift-fits : SFits w64 (shrZ (signed 32 a) m)
-  shift-fits = sfits-widen tt (shifts w32 m (signed-fits h))
+  shift-fits = sfits-widen tt (shifts w32 m (signed-in-range h))
 
   pub shifted : {x : ℤ} → x ≡ signed 32 a → toZ w32 (ofZ w32 (shrZ (toZ w32 (ofZ w32 x)) m)) ≡ shrZ (signed 32 a) m
-  shifted e = held (shifts w32 m (signed-fits h)) (ap (λ (y : ℤ). shrZ y m) (held (signed-fits h) e))
+  shifted e = held (shifts w32 m (signed-in-range h)) (ap (λ (y : ℤ). shrZ y m) (held (signed-in-range h) e))
 
 -- a shift by the low bits
 pub amount-lt : (b m : ℕ) → T (ltb m 32) → bitAnd b m < 32
@@ -106,8 +106,8 @@ pub result-of : (f : ℤ → ℤ → ℤ) {a b : ℕ} → Fits w32 a → Fits w3
 result-of f ha hb d e h = rw (at-signed ha d, at-signed hb e, toZ-ofZ h)
 
 -- the product of two numbers of k bits
-pub below : (k : ℕ) {a b : ℕ} → a < 2 ^ k → b < 2 ^ k → a * b < 2 ^ (k + k)
-below k {a} {b} ha hb =
+pub product-below : (k : ℕ) {a b : ℕ} → a < 2 ^ k → b < 2 ^ k → a * b < 2 ^ (k + k)
+product-below k {a} {b} ha hb =
     subst⁻¹ (λ (n : ℕ). a * b < n) (pow-add 2 k k)
     (lt-of-le-of-lt (mul-le-mul-left a (le-of-lt hb)) (mul-lt-mul-of-pos-right ha (pow-pos k)))
 

@@ -1,11 +1,12 @@
 -- What each operation of RV32I and RV32M computes (the manual's sections 2.4, 2.5 and 7.1, 7.2), of two register values or of a register's value and an immediate.
 -- Of integers, `quotZ` is the quotient rounded toward zero, `remZ` the remainder with the sign of the dividend, `ltZ` and `leZ` are < and ≤.
 use Prim.Native.Nat.{ℕ, _+_, _-_, _*_, _/_, _%_, _^_}
-use mathlib.Core.Bool.{Bool, true, false, cond, not}
+use mathlib.Core.Bool.{Bool, cond, not}
 use lib.Dec.{eqb, ltb, leb}
 use lib.Bits.{bitAnd, bitOr, bitXor}
 use lib.IntN.{pos, _*ℤ_}
 use lib.Signed.{ltZ, leZ, shrZ, quotZ, remZ}
+use Rattle.word.specs.Bits.{flag}
 use Rattle.alu.specs.Integers.{signed, lowBits, upper}
 use Rattle.isa.specs.declared.ArithOp.{ArithOp}
 use Rattle.isa.specs.declared.ArithOp.the-variants.{Add, Sub, Sll, Slt, Sltu, Xor, Srl, Sra, Or, And}
@@ -24,11 +25,6 @@ sum a b = (a + b) % 2 ^ 32
 
 abbrev pub difference : ℕ → ℕ → ℕ
 difference a b = (a + (2 ^ 32 - b)) % 2 ^ 32
-
--- 1 where a condition holds, else 0
-abbrev pub flag : Bool → ℕ
-flag true = 1
-flag false = 0
 
 -- register shifts use the low five bits
 abbrev pub amount : ℕ → ℕ

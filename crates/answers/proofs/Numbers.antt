@@ -41,13 +41,12 @@ refusal-numbered R.NoShortForm = (refl, lit≤ tt, lit≤ tt)
 pub number-of-one : {p q : Refusal} → numberOf p ≡ numberOf q → p ≡ q
 number-of-one e = one-to-one numberOf refusalOf (λ r. refusal-numbered r .0) e
 
--- ---- stops, from 0
+-- ---- stops, from 1
 
 abbrev stopOf : ℕ → Stop
 stopOf n =
     getD
-    (S.Paused
-    ∷ S.Ecall
+    (S.Ecall
     ∷ S.Ebreak
     ∷ S.IllegalInstruction
     ∷ S.FetchOutside
@@ -58,10 +57,9 @@ stopOf n =
     ∷ S.AlreadyBurnt
     ∷ S.CountFull
     ∷ [])
-    n S.Paused
+    (n - 1) S.Ecall
 
-pub stop-numbered : (s : Stop) → Numbered stopNumber stopOf 0 lastStop s
-stop-numbered S.Paused = (refl, lit≤ tt, lit≤ tt)
+pub stop-numbered : (s : Stop) → Numbered stopNumber stopOf 1 lastStop s
 stop-numbered S.Ecall = (refl, lit≤ tt, lit≤ tt)
 stop-numbered S.Ebreak = (refl, lit≤ tt, lit≤ tt)
 stop-numbered S.IllegalInstruction = (refl, lit≤ tt, lit≤ tt)

@@ -1,16 +1,13 @@
 -- The C interface: a call returns a number, and leaves values in the places that were lent to it.
 use Prim.Native.Nat.{ℕ}
 use Rattle.answers.specs.Answer.{Answer, given, refusedWith}
-
--- the number that a call returns, with what stands in a lent place afterwards
-pub record Reply (A : Type 0) : Type 0 where
-  pub number : ℕ
-  pub place : A
-
-abbrev pub reply : {A : Type 0} → ℕ → A → Reply A
-reply n a = record { number = n; place = a }
+use Rattle.answers.specs.Outcomes.{Outcome, outcome}
 
 -- 0 and the values; or the refusal's number, and the place as it was
-abbrev pub told : {A : Type 0} → Answer A → A → Reply A
-told (given a) before = reply 0 a
-told (refusedWith n) before = reply n before
+abbrev pub told : {A : Type 0} → Answer A → A → Outcome ℕ A
+told (given a) before = outcome 0 a
+told (refusedWith n) before = outcome n before
+
+-- an entry as a call: its answer told, and its buffers as it leaves them
+abbrev pub called : {A B C : Type 0} → (A → Answer C) → C → Outcome A B → Outcome ℕ C × B
+called read before o = (told (read (o .answer)) before, o .lent)

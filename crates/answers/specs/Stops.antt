@@ -1,11 +1,9 @@
--- The stop numbers, as the paper's table lists them.
+-- The stop numbers, as the paper's table lists them; 0 is no stop: paused, can go on.
 use Prim.Native.Nat.{ℕ}
 use Rattle.answers.specs.declared.Stop.{Stop}
-use Rattle.answers.specs.declared.Stop.the-variants.{Paused, Ecall, Ebreak, IllegalInstruction, FetchOutside, LoadMisaligned, LoadOutside, StoreMisaligned, StoreOutside, AlreadyBurnt, CountFull}
+use Rattle.answers.specs.declared.Stop.the-variants.{Ecall, Ebreak, IllegalInstruction, FetchOutside, LoadMisaligned, LoadOutside, StoreMisaligned, StoreOutside, AlreadyBurnt, CountFull}
 
 abbrev pub stopNumber : Stop → ℕ
--- paused, can go on
-stopNumber Paused = 0
 stopNumber Ecall = 1
 stopNumber Ebreak = 2
 stopNumber IllegalInstruction = 3

@@ -39,9 +39,8 @@ pub enum Check {
     Refused(Refusal),
 }
 
-// Why a run does not go on; `Paused` where it can.
+// Why a run does not go on.
 pub enum Stop {
-    Paused,
     Ecall,
     Ebreak,
     IllegalInstruction,
@@ -59,7 +58,6 @@ impl Stop {
         ensures { λ r. ⌜ r ≡ stopNumber self ⌝ }
     {
         match self {
-            Stop::Paused => 0,
             Stop::Ecall => 1,
             Stop::Ebreak => 2,
             Stop::IllegalInstruction => 3,

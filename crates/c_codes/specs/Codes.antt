@@ -8,7 +8,8 @@ use Rattle.isa.specs.Decoding.{decoded}
 use Rattle.isa.specs.Rvc.{expanded}
 use Rattle.isa.specs.Answers.{ofDecoded}
 use Rattle.chart.specs.Chart.{charted}
-use Rattle.answers.specs.Replies.{Reply, told}
+use Rattle.answers.specs.Outcomes.{Outcome}
+use Rattle.answers.specs.Replies.{told}
 use Rattle.calls.specs.Calls.{numbersOf}
 
 -- an instruction in the answer as its five numbers
@@ -16,15 +17,15 @@ abbrev pub numbered : Answer Inst → Answer (List ℕ)
 numbered (given i) = given (numbersOf i)
 numbered (refusedWith n) = refusedWith n
 
-abbrev pub chartCall : ℕ → ℕ → Reply ℕ
+abbrev pub chartCall : ℕ → ℕ → Outcome ℕ ℕ
 chartCall bits format = told (given (charted bits)) format
 
 -- what bits mean, where these numbers stood
-abbrev pub meant : List ℕ → Decoded → Reply (List ℕ)
+abbrev pub meant : List ℕ → Decoded → Outcome ℕ (List ℕ)
 meant inst d = told (numbered (ofDecoded d)) inst
 
-abbrev pub decodeCall : ℕ → List ℕ → Reply (List ℕ)
+abbrev pub decodeCall : ℕ → List ℕ → Outcome ℕ (List ℕ)
 decodeCall bits inst = meant inst (decoded bits)
 
-abbrev pub expandCall : ℕ → List ℕ → Reply (List ℕ)
+abbrev pub expandCall : ℕ → List ℕ → Outcome ℕ (List ℕ)
 expandCall bits inst = meant inst (expanded bits)

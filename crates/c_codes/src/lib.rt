@@ -4,13 +4,13 @@ use answers::Refusal;
 use calls::numbers_of;
 use isa::Decoded;
 ghost use mathlib.Core.Path.{_≡_};
-ghost use Rattle.answers.specs.Replies.{reply};
+ghost use Rattle.answers.specs.Outcomes.{outcome};
 ghost use Rattle.c_codes.specs.Codes.{chartCall, decodeCall, expandCall};
 
 // The class of 32 bits in the chart. Never refuses.
 #[no_mangle]
 pub extern "C" fn phuyurik_chart(bits: u32, format: &mut u8) -> u32
-    ensures { λ r. ⌜ reply r (now (format .exit)) ≡ chartCall bits (now (format .entry)) ⌝ }
+    ensures { λ r. ⌜ outcome r (now (format .exit)) ≡ chartCall bits (now (format .entry)) ⌝ }
 {
     *format = chart::chart(bits);
     0
@@ -19,7 +19,7 @@ pub extern "C" fn phuyurik_chart(bits: u32, format: &mut u8) -> u32
 // What 32 bits mean. Refuses with 7.
 #[no_mangle]
 pub extern "C" fn phuyurik_decode(bits: u32, inst: &mut [u32; 5]) -> u32
-    ensures { λ r. ⌜ reply r (now (inst .exit)) ≡ decodeCall bits (now (inst .entry)) ⌝ }
+    ensures { λ r. ⌜ outcome r (now (inst .exit)) ≡ decodeCall bits (now (inst .entry)) ⌝ }
 {
     let Decoded::Legal(i) = decoder::decode(bits) else {
         return Refusal::NoInstruction.number() as u32;
@@ -31,7 +31,7 @@ pub extern "C" fn phuyurik_decode(bits: u32, inst: &mut [u32; 5]) -> u32
 // What 16 bits mean. Refuses with 7.
 #[no_mangle]
 pub extern "C" fn phuyurik_expand(bits: u16, inst: &mut [u32; 5]) -> u32
-    ensures { λ r. ⌜ reply r (now (inst .exit)) ≡ expandCall bits (now (inst .entry)) ⌝ }
+    ensures { λ r. ⌜ outcome r (now (inst .exit)) ≡ expandCall bits (now (inst .entry)) ⌝ }
 {
     let Decoded::Legal(i) = expander::expand(bits) else {
         return Refusal::NoInstruction.number() as u32;

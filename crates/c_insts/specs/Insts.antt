@@ -2,7 +2,8 @@
 use Prim.Native.Nat.{ℕ}
 use mathlib.Core.List.{List}
 use Rattle.answers.specs.Answer.{Answer, given, refusedWith}
-use Rattle.answers.specs.Replies.{Reply, told}
+use Rattle.answers.specs.Outcomes.{Outcome}
+use Rattle.answers.specs.Replies.{told}
 use Rattle.isa.specs.declared.Inst.{Inst}
 use Rattle.isa.specs.Encoding.{encoded}
 use Rattle.isa.specs.Shortening.{shortened}
@@ -14,8 +15,8 @@ abbrev pub ifBuilt : {A : Type 0} → Answer Inst → (Inst → Answer A) → An
 ifBuilt (given i) asked = asked i
 ifBuilt (refusedWith n) asked = refusedWith n
 
-abbrev pub encodeCall : List ℕ → ℕ → Reply ℕ
+abbrev pub encodeCall : List ℕ → ℕ → Outcome ℕ ℕ
 encodeCall inst bits = told (ifBuilt (ofNumbers inst) (λ i. ofEncoded (encoded i))) bits
 
-abbrev pub shortenCall : List ℕ → ℕ → Reply ℕ
+abbrev pub shortenCall : List ℕ → ℕ → Outcome ℕ ℕ
 shortenCall inst bits = told (ifBuilt (ofNumbers inst) (λ i. ofShortened (shortened i))) bits

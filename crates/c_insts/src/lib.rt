@@ -6,13 +6,13 @@ use isa::Built;
 use isa::Encoded;
 use isa::Shortened;
 ghost use mathlib.Core.Path.{_≡_};
-ghost use Rattle.answers.specs.Replies.{reply};
+ghost use Rattle.answers.specs.Outcomes.{outcome};
 ghost use Rattle.c_insts.specs.Insts.{encodeCall, shortenCall};
 
 // The word of an instruction. Refuses with 8.
 #[no_mangle]
 pub extern "C" fn phuyurik_encode(inst: &[u32; 5], bits: &mut u32) -> u32
-    ensures { λ r. ⌜ reply r (now (bits .exit)) ≡ encodeCall (now (inst .entry)) (now (bits .entry)) ⌝ }
+    ensures { λ r. ⌜ outcome r (now (bits .exit)) ≡ encodeCall (now (inst .entry)) (now (bits .entry)) ⌝ }
 {
     let Built::Instruction(i) = inst_in(inst) else {
         return Refusal::Field.number() as u32;
@@ -27,7 +27,7 @@ pub extern "C" fn phuyurik_encode(inst: &[u32; 5], bits: &mut u32) -> u32
 // The smallest halfword that stands for an instruction. Refuses with 8 and 9.
 #[no_mangle]
 pub extern "C" fn phuyurik_shorten(inst: &[u32; 5], bits: &mut u16) -> u32
-    ensures { λ r. ⌜ reply r (now (bits .exit)) ≡ shortenCall (now (inst .entry)) (now (bits .entry)) ⌝ }
+    ensures { λ r. ⌜ outcome r (now (bits .exit)) ≡ shortenCall (now (inst .entry)) (now (bits .entry)) ⌝ }
 {
     let Built::Instruction(i) = inst_in(inst) else {
         return Refusal::Field.number() as u32;

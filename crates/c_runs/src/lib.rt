@@ -6,7 +6,9 @@ use state::State;
 ghost use mathlib.Core.Path.{_≡_};
 ghost use Rattle.state.specs.States.{state};
 ghost use Rattle.engine.specs.Steps.{world};
-ghost use Rattle.answers.specs.Replies.{reply};
+ghost use Rattle.answers.specs.Outcomes.{outcome};
+ghost use Rattle.boards.specs.Boards.{board};
+ghost use Rattle.resume.specs.Resuming.{bench};
 ghost use Rattle.c_runs.specs.Runs.{stepCall, runCall, resumeCall};
 
 // The state that has these parts.
@@ -32,7 +34,7 @@ pub extern "C" fn phuyurik_step(
     mem: &mut [u8],
     row: &mut [u8],
 ) -> u32
-    ensures { λ r. ⌜ (reply r (state (now (pc .exit)) (now (x .exit)) (now (count .exit)) (now (stop .exit))), now (mem .exit), now (row .exit)) ≡ stepCall (world (state (now (pc .entry)) (now (x .entry)) (now (count .entry)) (now (stop .entry))) (now (mem .entry)) (now (row .entry))) ⌝ }
+    ensures { λ r. ⌜ (outcome r (state (now (pc .exit)) (now (x .exit)) (now (count .exit)) (now (stop .exit))), board (now (mem .exit)) (now (row .exit))) ≡ stepCall (world (state (now (pc .entry)) (now (x .entry)) (now (count .entry)) (now (stop .entry))) (board (now (mem .entry)) (now (row .entry)))) ⌝ }
 {
     let s = state_of(*pc, x, *count, *stop);
     let done = machine::step(s, mem, row);
@@ -61,7 +63,7 @@ pub extern "C" fn phuyurik_run(
     budget: u64,
     retired: &mut u64,
 ) -> u32
-    ensures { λ r. ⌜ (reply r (state (now (pc .exit)) (now (x .exit)) (now (count .exit)) (now (stop .exit)), now (retired .exit)), now (mem .exit), now (row .exit)) ≡ runCall budget (world (state (now (pc .entry)) (now (x .entry)) (now (count .entry)) (now (stop .entry))) (now (mem .entry)) (now (row .entry))) (now (retired .entry)) ⌝ }
+    ensures { λ r. ⌜ (outcome r (state (now (pc .exit)) (now (x .exit)) (now (count .exit)) (now (stop .exit)), now (retired .exit)), board (now (mem .exit)) (now (row .exit))) ≡ runCall budget (world (state (now (pc .entry)) (now (x .entry)) (now (count .entry)) (now (stop .entry))) (board (now (mem .entry)) (now (row .entry)))) (now (retired .entry)) ⌝ }
 {
     let s = state_of(*pc, x, *count, *stop);
     let done = machine::run(s, mem, row, budget);
@@ -89,7 +91,7 @@ pub extern "C" fn phuyurik_run_slot(
     budget: u64,
     retired: &mut u64,
 ) -> u32
-    ensures { λ r. ⌜ (reply r (now (retired .exit)), now (mem .exit), now (row .exit), now (slots .exit)) ≡ resumeCall budget k (now (mem .entry)) (now (row .entry)) (now (slots .entry)) (now (retired .entry)) ⌝ }
+    ensures { λ r. ⌜ (outcome r (now (retired .exit)), bench (board (now (mem .exit)) (now (row .exit))) (now (slots .exit))) ≡ resumeCall budget k (bench (board (now (mem .entry)) (now (row .entry))) (now (slots .entry))) (now (retired .entry)) ⌝ }
 {
     match resume::run_slot(mem, row, slots, k, budget) {
         Resumed::Retired(n) => {

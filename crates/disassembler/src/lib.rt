@@ -9,7 +9,8 @@ use ranges::in_range;
 use text::put_short_text;
 use text::put_text;
 ghost use mathlib.Core.Path.{_≡_};
-ghost use Rattle.disassembler.specs.Entries.{textOutcome, wordEntry, halfEntry, instEntry};
+ghost use Rattle.answers.specs.Outcomes.{outcome};
+ghost use Rattle.disassembler.specs.Entries.{wordEntry, halfEntry, instEntry};
 
 // What the three entries answer: the text's length, or a refusal.
 pub enum Written {
@@ -22,7 +23,7 @@ const ROOM: usize = 24;
 
 // The text of 32 bits. Refuses with 6 and 7.
 pub fn text_of_word(bits: u32, room: &mut [u8]) -> Written
-    ensures { λ r. ⌜ textOutcome r (now (room .exit)) ≡ wordEntry bits (now (room .entry)) ⌝ }
+    ensures { λ r. ⌜ outcome r (now (room .exit)) ≡ wordEntry bits (now (room .entry)) ⌝ }
 {
     if room.len() < ROOM {
         return Written::Refused(Refusal::Room);
@@ -35,7 +36,7 @@ pub fn text_of_word(bits: u32, room: &mut [u8]) -> Written
 
 // The text of 16 bits. Refuses with 6 and 7.
 pub fn text_of_half(bits: u16, room: &mut [u8]) -> Written
-    ensures { λ r. ⌜ textOutcome r (now (room .exit)) ≡ halfEntry bits (now (room .entry)) ⌝ }
+    ensures { λ r. ⌜ outcome r (now (room .exit)) ≡ halfEntry bits (now (room .entry)) ⌝ }
 {
     if room.len() < ROOM {
         return Written::Refused(Refusal::Room);
@@ -48,7 +49,7 @@ pub fn text_of_half(bits: u16, room: &mut [u8]) -> Written
 
 // The text of an instruction. Refuses with 6 and 8.
 pub fn text_of(i: Inst, room: &mut [u8]) -> Written
-    ensures { λ r. ⌜ textOutcome r (now (room .exit)) ≡ instEntry i (now (room .entry)) ⌝ }
+    ensures { λ r. ⌜ outcome r (now (room .exit)) ≡ instEntry i (now (room .entry)) ⌝ }
 {
     if room.len() < ROOM {
         return Written::Refused(Refusal::Room);

@@ -1,21 +1,30 @@
--- The laws of steps and runs: runs add up, a stopped world stays, and the count grows by the steps that complete. Assumes nothing.
+-- The laws of steps and runs: runs add up, a stopped world stays, the count grows by the steps that complete, and a step that stops changes the stop number alone. Assumes nothing.
 use Prim.Native.Nat.{ℕ, zero, suc, _+_, _-_, _≤_, _<_, _^_}
 use native.Mathlib.Nat.{zero-add, suc-add}
 use native.Mathlib.Omega.{arith}
 use mathlib.Core.Path.{_≡_, refl, sym, ap, _∙_}
-use mathlib.Core.Bool.{Bool, true, false, cond, _&&_}
-use mathlib.Core.List.{List}
-use borrow.Author.Tests.{eq-eqb, ne-eqb, lt-ltb, le-ltb}
+use mathlib.Core.Bool.{Bool, true, false}
+use mathlib.Core.Logic.{_↔_}
+use lib.Dec.{eqb}
+use borrow.Author.Tests.{eqb-true, eq-eqb, ne-eqb, lt-ltb, le-ltb}
+use Rattle.answers.specs.Outcomes.{outcome}
+use Rattle.answers.specs.Stops.{stopNumber}
+use Rattle.answers.proofs.Numbers.{stop-numbered}
 use Rattle.answers.specs.declared.Stop.{Stop}
 use Rattle.answers.specs.declared.Stop.the-variants.{CountFull}
-use Rattle.isa.specs.declared.Reg.{Reg}
-use Rattle.alu.specs.Arithmetic.{flag}
-use Rattle.access.specs.Accesses.{done}
+use Rattle.word.specs.Bits.{flag}
+use Rattle.word.proofs.Bools.{flag-le}
+use Rattle.state.specs.declared.State.{State}
+use Rattle.state.specs.States.{halted}
+use Rattle.boards.specs.Boards.{Board}
+use Rattle.access.specs.Accesses.{Done}
 use Rattle.access.specs.declared.Effect.{Effect}
 use Rattle.access.specs.declared.Effect.the-variants.{Next, Halt}
-use Rattle.state.specs.declared.State.{State}
-use Rattle.state.specs.States.{written, advanced, halted}
-use Rattle.engine.specs.Steps.{World, world, effectAt, applied, after, next, paused, stepped, ran, goesOn, completes, retired}
+use Rattle.execute.specs.declared.Act.{Act}
+use Rattle.execute.specs.Execution.{performed}
+use Rattle.execute.proofs.Acts.{Comes, sets, loads, into-memory, into-row, stops}
+use Rattle.engine.specs.Steps.{World, world, actAt, asked, applied, after, paused, stepped, ran, goesOn, completes, retired}
+use Rattle.engine.proofs.Walk.{walk}
 
 -- ---- runs
 
@@ -40,13 +49,8 @@ unfolding applied
 applied-count (Next rd v pc) s = refl
 applied-count (Halt why) s = omega arith
 
-cond-count : (b : Bool) (w : World) → cond b (after (next w) (w .st)) w .st .count ≡ w .st .count + flag (b && goesOn (next w .effect))
-cond-count true w = applied-count (next w .effect) (w .st)
-cond-count false w = omega arith
-
-pub count-stepped : (w : World) → stepped w .st .count ≡ w .st .count + flag (completes w)
-unfolding stepped
-count-stepped w = cond-count (paused w) w
+count-stepped : (w : World) → stepped w .st .count ≡ w .st .count + flag (completes w)
+count-stepped w = walk w (λ c v. v .st .count ≡ w .st .count + flag c) (λ e. omega arith) (λ e d c. applied-count (d .answer) (w .st))
 
 pub count-ran : (n : ℕ) (w : World) → ran n w .st .count ≡ w .st .count + retired n w
 unfolding ran retired
@@ -54,9 +58,11 @@ count-ran zero w = omega arith
 count-ran (suc n) w = let h = count-ran n (stepped w) in let k = count-stepped w in omega arith
 
 -- a run that ended in the state t
-pub count-grew : (budget : ℕ) (s : State) (m f : List ℕ) {t : State} {m′ f′ : List ℕ} → world t m′ f′ ≡ ran budget (world s m f)
-    → t .count ≡ s .count + retired budget (world s m f)
-count-grew budget s m f e = ap (λ (w : World). w .st .count) e ∙ count-ran budget (world s m f)
+pub count-grew : (budget : ℕ) (w : World) {t : State} {b : Board} → world t b ≡ ran budget w → t .count ≡ w .st .count + retired budget w
+count-grew budget w e = ap (λ (v : World). v .st .count) e ∙ count-ran budget w
+
+pub count-grew-by : (budget : ℕ) (w : World) {t : State} {b : Board} → world t b ≡ ran budget w → t .count - w .st .count ≡ retired budget w
+count-grew-by budget w e = let h = count-grew budget w e in omega arith
 
 -- what changes nothing grows no count
 pub retired-stopped : (n : ℕ) (w : World) → (w .st .stop ≡ 0 → ⊥) → retired n w ≡ 0
@@ -67,7 +73,61 @@ unfolding ran retired
 retired-add zero b w = rw (zero-add b) (omega arith)
 retired-add (suc a) b w = rw suc-add (let h = retired-add a b (stepped w) in omega arith)
 
--- ---- one step
+retired-le : (n : ℕ) (w : World) → retired n w ≤ n
+unfolding retired
+retired-le zero w = omega arith
+retired-le (suc n) w = omega (arith, flag-le (completes w), retired-le n (stepped w))
+
+-- a run retires at most the budget, and its count grows by that
+pub counts-up : (n : ℕ) (w : World) → (retired n w ≤ n) × (ran n w .st .count ≡ w .st .count + retired n w)
+counts-up n w = (retired-le n w, count-ran n w)
+
+-- ---- a step that stops
+
+-- where an act stops, the board is as it was
+clean : {b : Board} {a : Act} {d : Done} → Comes b a d → goesOn (d .answer) ≡ false → (why : Stop) × (d ≡ outcome (Halt why) b)
+clean (sets rd v pc) e = absurd (omega (arith, ap flag e))
+clean (loads o rd a pc v h) e = absurd (omega (arith, ap flag e))
+clean (into-memory o v a pc i p h) e = absurd (omega (arith, ap flag e))
+clean (into-row o v a pc k p h z) e = absurd (omega (arith, ap flag e))
+clean (stops a why) e = (why, refl)
+
+pub stops-with : (w : World) → paused w ≡ true → completes w ≡ false → (why : Stop) × (stepped w ≡ world (halted why (w .st)) (w .board))
+unfolding applied
+stops-with w p =
+    walk w (λ c v. c ≡ false → (why : Stop) × (v ≡ world (halted why (w .st)) (w .board)))
+    (λ e. absurd (omega (arith, ap flag (sym e ∙ p))))
+    (λ e d c f. let s = clean c f in (s .0, ap (λ o. after o (w .st)) (s .1)))
+
+-- a step that completes leaves the stop number
+stays-paused : (w : World) → completes w ≡ true → paused (stepped w) ≡ true
+unfolding applied
+stays-paused w = walk w (λ c v. c ≡ true → paused v ≡ true) (λ e t. absurd (omega (arith, ap flag t))) (λ p d c. go (d .answer) p)
+  where
+    go : (e : Effect) → paused w ≡ true → goesOn e ≡ true → eqb (applied e (w .st) .stop) 0 ≡ true
+    go (Next rd v pc) p t = p
+    go (Halt why) p t = cc
+
+-- a run that began paused is paused exactly if it has retired the budget: a step that stops ends it, for what follows changes nothing
+pub paused-exactly : (n : ℕ) (w : World) → paused w ≡ true → (paused (ran n w) ≡ true) ↔ (retired n w ≡ n)
+unfolding ran retired
+paused-exactly zero w p = (λ e. refl, λ e. p)
+paused-exactly (suc n) w p = go (completes w) refl (paused-exactly n (stepped w))
+  where
+    stopped : completes w ≡ false → paused (ran n (stepped w)) ≡ true → ⊥
+    stopped t e =
+        let c = stops-with w p t in
+        let least = stop-numbered (c .0) .1 in
+        let s : stepped w .st .stop ≡ stopNumber (c .0) = ap (λ (v : World). v .st .stop) (c .1) in
+        let r = ran-stopped n (stepped w) (λ z. omega arith) in
+        omega (arith, eqb-true (ran n (stepped w) .st .stop) 0 e, ap (λ (v : World). v .st .stop) r)
+
+    go : (b : Bool) → completes w ≡ b → (paused (stepped w) ≡ true → (paused (ran n (stepped w)) ≡ true) ↔ (retired n (stepped w) ≡ n))
+        → (paused (ran n (stepped w)) ≡ true) ↔ (flag (completes w) + retired n (stepped w) ≡ suc n)
+    go true t ih = let i = ih (stays-paused w t) in (λ e. omega (arith, ap flag t, i .0 e), λ e. i .1 (omega (arith, ap flag t)))
+    go false t ih = (λ e. absurd (stopped t e), λ e. absurd (omega (arith, ap flag t, retired-le n (stepped w))))
+
+-- ---- one step, as the code takes it
 
 -- a turn of the loop
 pub ran-turn : {w′ : World} (n : ℕ) (w : World) → 0 < n → w′ ≡ stepped w → ran (n - 1) w′ ≡ ran n w
@@ -75,39 +135,20 @@ unfolding ran
 ran-turn zero w h e = absurd (omega arith)
 ran-turn (suc n) w h e = let k : suc n - 1 ≡ n = omega arith in rw (k, e)
 
--- a step comes to what its instruction does
-goes : (w : World) → w .st .stop ≡ 0 → w .st .count < 2 ^ 64 - 1
-    → stepped w ≡ after (effectAt (w .st .pc) (w .st .x) (w .mem) (w .row)) (w .st)
-unfolding stepped next
-goes w h k = rw (eq-eqb _ _ h, lt-ltb _ _ k)
+-- a step comes to what its instruction asks for, performed and applied
+pub step-does : {a : Act} {e : Effect} {b : Board} {s : State} (w : World) → w .st .stop ≡ 0 → w .st .count < 2 ^ 64 - 1
+    → a ≡ actAt (w .st .pc) (w .st .x) (w .board .mem) → outcome e b ≡ performed a (w .board) → s ≡ applied e (w .st) → world s b ≡ stepped w
+unfolding stepped asked
+step-does w h k t p e = rw (eq-eqb _ _ h, lt-ltb _ _ k, ← t, ← p, e)
 
-pub step-next : {e : Effect} {rd : Reg} {v pc : ℕ} {m f : List ℕ} (w : World) → w .st .stop ≡ 0 → w .st .count < 2 ^ 64 - 1
-    → done e m f ≡ effectAt (w .st .pc) (w .st .x) (w .mem) (w .row) → e ≡ Next rd v pc
-    → world (advanced pc (written rd v (w .st))) m f ≡ stepped w
-unfolding applied
-step-next w h k d e = rw (goes w h k, ← d, e)
+-- a step at the last count stops
+pub step-full : (w : World) → w .st .stop ≡ 0 → 2 ^ 64 - 1 ≤ w .st .count → world (halted CountFull (w .st)) (w .board) ≡ stepped w
+unfolding stepped asked performed applied
+step-full w h k = rw (eq-eqb _ _ h, le-ltb _ _ k)
 
--- .. and where the register is x0, the write may be left out
-pub step-dropped : {e : Effect} {rd : Reg} {v pc : ℕ} {m f : List ℕ} (w : World) → w .st .stop ≡ 0 → w .st .count < 2 ^ 64 - 1
-    → done e m f ≡ effectAt (w .st .pc) (w .st .x) (w .mem) (w .row) → e ≡ Next rd v pc → rd .number ≡ 0
-    → world (advanced pc (w .st)) m f ≡ stepped w
-unfolding applied
-step-dropped w h k d e z = rw (goes w h k, ← d, e, eq-eqb _ 0 z)
-
-pub step-halt : {e : Effect} {why : Stop} {m f : List ℕ} (w : World) → w .st .stop ≡ 0 → w .st .count < 2 ^ 64 - 1
-    → done e m f ≡ effectAt (w .st .pc) (w .st .x) (w .mem) (w .row) → e ≡ Halt why
-    → world (halted why (w .st)) m f ≡ stepped w
-unfolding applied
-step-halt w h k d e = rw (goes w h k, ← d, e)
-
-full-step : (w : World) → w .st .stop ≡ 0 → 2 ^ 64 - 1 ≤ w .st .count → world (halted CountFull (w .st)) (w .mem) (w .row) ≡ stepped w
-unfolding stepped next applied
-full-step w h k = rw (eq-eqb _ _ h, le-ltb _ _ k)
-
--- a step at the last count stops, and so does the run
-pub ran-full : (n : ℕ) (w : World) → 0 < n → w .st .stop ≡ 0 → 2 ^ 64 - 1 ≤ w .st .count
-    → world (halted CountFull (w .st)) (w .mem) (w .row) ≡ ran n w
+-- .. and so does the run
+pub ran-full : (n : ℕ) (w : World) → 0 < n → w .st .stop ≡ 0 → 2 ^ 64 - 1 ≤ w .st .count → world (halted CountFull (w .st)) (w .board) ≡ ran n w
 ran-full n w p h k =
-    let full : World = world (halted CountFull (w .st)) (w .mem) (w .row) in
-    let e : full ≡ stepped w = full-step w h k in
+    let full : World = world (halted CountFull (w .st)) (w .board) in
+    let e : full ≡ stepped w = step-full w h k in
     sym (ran-stopped (n - 1) full (λ z. omega arith)) ∙ ran-turn n w p e

@@ -3,50 +3,65 @@ use Prim.Native.Nat.{ℕ, zero, suc, _+_, _-_, _^_}
 use mathlib.Core.Bool.{Bool, true, false, cond, _&&_}
 use mathlib.Core.List.{List}
 use lib.Dec.{eqb, ltb}
+use Rattle.answers.specs.declared.Check.{Check}
 use Rattle.answers.specs.declared.Stop.the-variants.{CountFull}
-use Rattle.alu.specs.Arithmetic.{flag}
+use Rattle.word.specs.Bits.{flag}
+use Rattle.alu.specs.Arithmetic.{sum}
 use Rattle.state.specs.declared.State.{State}
-use Rattle.state.specs.States.{written, advanced, halted}
-use Rattle.access.specs.Accesses.{Done, done}
+use Rattle.state.specs.Sizes.{Fits}
+use Rattle.state.specs.States.{written, advanced, halted, stateChecked}
+use Rattle.boards.specs.Boards.{Board, BoardFits, boardChecked}
+use Rattle.access.specs.Accesses.{Done}
 use Rattle.access.specs.declared.Effect.{Effect}
 use Rattle.access.specs.declared.Effect.the-variants.{Next, Halt}
-use Rattle.execute.specs.Execution.{effectOf}
+use Rattle.execute.specs.declared.Act.{Act}
+use Rattle.execute.specs.declared.Act.the-variants.{Ends}
+use Rattle.execute.specs.Execution.{actOf, performed}
 use Rattle.fetch.specs.declared.Fetched.{Fetched}
 use Rattle.fetch.specs.declared.Fetched.the-variants.{Instruction, Fails}
 use Rattle.fetch.specs.Fetching.{fetched}
 
--- everything that a step can see or change: the state, the bytes of main memory and the bytes of the fuse row
+-- everything that a step can see or change: the state, and the board of main memory and fuse row
 pub record World : Type 0 where
   pub st : State
-  pub mem : List ℕ
-  pub row : List ℕ
+  pub board : Board
 
-abbrev pub world : State → List ℕ → List ℕ → World
-world s m f = record { st = s; mem = m; row = f }
+abbrev pub world : State → Board → World
+world s b = record { st = s; board = b }
+
+-- what the types say of every world that there is: the state's numbers fit, and bytes are bytes
+pub record Sized (w : World) : Type 0 where
+  pub state-fits : Fits (w .st)
+  pub board-fits : BoardFits (w .board)
+
+-- what the entries ask of a world before its first step: refusals 1, 2, 3 and 5
+abbrev pub checked : World → Check
+checked w = boardChecked (w .board) (stateChecked (w .st))
 
 -- ---- one step
 
-unfoldable pub effectFetched : Fetched → ℕ → List ℕ → List ℕ → List ℕ → Done
-effectFetched (Instruction i len) pc x m f = effectOf i len pc x m f
-effectFetched (Fails why) pc x m f = done (Halt why) m f
+-- what an instruction that was fetched, or a fetch that failed, asks for at pc, over the registers x
+unfoldable pub actFetched : Fetched → ℕ → List ℕ → Act
+actFetched (Instruction i len) pc x = actOf i (sum pc len) pc x
+actFetched (Fails why) pc x = Ends why
 
--- what the instruction at pc does
-abbrev pub effectAt : ℕ → List ℕ → List ℕ → List ℕ → Done
-effectAt pc x m f = effectFetched (fetched pc m) pc x m f
+abbrev pub actAt : ℕ → List ℕ → List ℕ → Act
+actAt pc x m = actFetched (fetched pc m) pc x
 
--- what the next step of a paused world comes to: the retired count at 2 ^ 64 - 1, then the instruction
-unfoldable pub next : World → Done
-next w =
-    cond (ltb (w .st .count) (2 ^ 64 - 1))
-    (effectAt (w .st .pc) (w .st .x) (w .mem) (w .row))
-    (done (Halt CountFull) (w .mem) (w .row))
+-- what the next step of a paused world asks for: the retired count at 2 ^ 64 - 1, then the instruction
+unfoldable pub asked : World → Act
+asked w = cond (ltb (w .st .count) (2 ^ 64 - 1)) (actAt (w .st .pc) (w .st .x) (w .board .mem)) (Ends CountFull)
+
+-- what comes of it
+abbrev pub next : World → Done
+next w = performed (asked w) (w .board)
 
 unfoldable pub applied : Effect → State → State
 applied (Next rd v pc) s = advanced pc (written rd v s)
 applied (Halt why) s = halted why s
 
 abbrev pub after : Done → State → World
-after d s = world (applied (d .effect) s) (d .mem) (d .row)
+after d s = world (applied (d .answer) s) (d .lent)
 
 abbrev pub paused : World → Bool
 paused w = eqb (w .st .stop) 0
@@ -68,7 +83,7 @@ goesOn (Halt why) = false
 
 -- whether the next step completes
 abbrev pub completes : World → Bool
-completes w = paused w && goesOn (next w .effect)
+completes w = paused w && goesOn (next w .answer)
 
 -- how many of the next n steps complete
 unfoldable pub retired : ℕ → World → ℕ

@@ -1,33 +1,51 @@
-// The plain engine: the manual's steps, one after the other.
+// The plain engine: the manual's steps, one after the other. A step is fetched, decided, performed
+// and applied.
 use access::Effect;
+use alu::add;
 use answers::Stop;
-use execute::execute;
+use execute::Act;
+use execute::decide;
+use execute::perform;
 use fetch::Fetched;
 use fetch::fetch;
 use state::State;
 ghost use mathlib.Core.Path.{_≡_};
+ghost use Prim.Native.Nat.{_+_, _<_, _^_};
 ghost use lib.ListN.{length};
-ghost use Rattle.access.specs.Accesses.{done};
-ghost use Rattle.engine.specs.Steps.{world, effectAt, ran};
+ghost use Rattle.boards.specs.Boards.{board};
+ghost use Rattle.engine.specs.Steps.{world, actAt, applied, ran};
 
 const FULL_COUNT: u64 = 18446744073709551615;
 
-// What the instruction at pc does.
-fn effect_at(pc: u32, x: &[u32; 31], mem: &mut [u8], row: &mut [u8]) -> Effect
-    requires { ⌜ length (now row) ≡ 512 ⌝ }
-    ensures { λ r. ⌜ done r (now (mem .exit)) (now (row .exit)) ≡ effectAt pc (now (x .entry)) (now (mem .entry)) (now (row .entry)) ⌝ }
+// What the instruction at pc asks for.
+fn act_at(pc: u32, x: &[u32; 31], mem: &[u8]) -> Act
+    ensures { λ r. ⌜ r ≡ actAt pc (now (x .entry)) (now (mem .entry)) ⌝ }
 {
     let found = fetch(pc, mem);
     match found {
-        Fetched::Instruction(i, len) => execute(i, len, pc, x, mem, row),
-        Fetched::Fails(why) => Effect::Halt(why),
+        Fetched::Instruction(i, len) => decide(i, add(pc, len), pc, x),
+        Fetched::Fails(why) => Act::Ends(why),
+    }
+}
+
+// The state after an effect. x0 drops writes: the registers need not be gone through.
+fn apply(s: State, e: Effect) -> State
+    requires { ⌜ s .count + 1 < 2 ^ 64 ⌝ }
+    ensures { λ r. ⌜ r ≡ applied e s ⌝ }
+{
+    match e {
+        Effect::Next { rd, value, pc } => match rd.number() {
+            0 => s.advance(pc),
+            _ => s.write(rd, value).advance(pc),
+        },
+        Effect::Halt(why) => s.halt(why),
     }
 }
 
 // At most budget steps, while none has stopped.
 pub fn run_steps(s: State, mem: &mut [u8], row: &mut [u8], budget: u64) -> State
     requires { ⌜ length (now row) ≡ 512 ⌝ }
-    ensures { λ r. ⌜ world r (now (mem .exit)) (now (row .exit)) ≡ ran budget (world s (now (mem .entry)) (now (row .entry))) ⌝ }
+    ensures { λ r. ⌜ world r (board (now (mem .exit)) (now (row .exit))) ≡ ran budget (world s (board (now (mem .entry)) (now (row .entry)))) ⌝ }
 {
     let mut t = s;
     let mut left = budget;
@@ -39,15 +57,9 @@ pub fn run_steps(s: State, mem: &mut [u8], row: &mut [u8], budget: u64) -> State
             return t.halt(Stop::CountFull);
         }
         left -= 1;
-        let e = effect_at(t.pc, &t.x, mem, row);
-        match e {
-            Effect::Next { rd, value, pc } => match rd.number() {
-                // x0 drops writes: the registers need not be gone through
-                0 => t = t.advance(pc),
-                _ => t = t.write(rd, value).advance(pc),
-            },
-            Effect::Halt(why) => t = t.halt(why),
-        }
+        let act = act_at(t.pc, &t.x, mem);
+        let e = perform(act, mem, row);
+        t = apply(t, e);
     }
     t
 }

@@ -1,16 +1,19 @@
--- What each instruction does (the manual's chapters 2 and 7), of len bytes at pc, over the registers x, main memory m and the fuse row f.
+-- What each instruction does (the manual's chapters 2 and 7), in two halves: what it asks for, by the registers alone, and what comes of that in main memory and the fuse row.
 use Prim.Native.Nat.{ℕ, _-_, _*_, _%_, _^_}
 use mathlib.Core.Bool.{cond}
 use mathlib.Core.List.{List}
+use Rattle.answers.specs.Outcomes.{outcome}
 use Rattle.answers.specs.declared.Stop.the-variants as S
-use Rattle.isa.specs.declared.Reg.{Reg}
 use Rattle.isa.specs.declared.Inst.{Inst}
 use Rattle.isa.specs.declared.Inst.the-variants.{Lui, Auipc, Jal, Jalr, Branch, Load, Store, Imm, Shift, Arith, Fence, Ecall, Ebreak, MulDiv}
 use Rattle.isa.specs.Registers.{x0}
 use Rattle.state.specs.States.{registerOf}
 use Rattle.alu.specs.Arithmetic.{sum, arithOf, immOf, shiftOf, mulDivOf, takes}
-use Rattle.access.specs.Accesses.{Done, done, loaded, stored}
+use Rattle.boards.specs.Boards.{Board}
+use Rattle.access.specs.Accesses.{Done, loaded, stored}
 use Rattle.access.specs.declared.Effect.the-variants.{Next, Halt}
+use Rattle.execute.specs.declared.Act.{Act}
+use Rattle.execute.specs.declared.Act.the-variants.{Sets, Loads, Stores, Ends}
 
 -- the 20-bit field of lui and auipc as bits 31 to 12
 abbrev pub upperField : ℕ → ℕ
@@ -20,26 +23,29 @@ upperField field = field * 2 ^ 12 % 2 ^ 32
 abbrev pub evened : ℕ → ℕ
 evened a = a - a % 2
 
--- rd gets what is computed, and the next instruction follows
-abbrev pub computes : Reg → ℕ → ℕ → ℕ → List ℕ → List ℕ → Done
-computes rd v len pc m f = done (Next rd v (sum pc len)) m f
-
-unfoldable pub effectOf : Inst → ℕ → ℕ → List ℕ → List ℕ → List ℕ → Done
-effectOf (Lui rd field) len pc x m f = computes rd (upperField field) len pc m f
-effectOf (Auipc rd field) len pc x m f = computes rd (sum pc (upperField field)) len pc m f
--- the link is pc plus the instruction's own length
-effectOf (Jal rd imm) len pc x m f = done (Next rd (sum pc len) (sum pc imm)) m f
-effectOf (Jalr rd rs1 imm) len pc x m f = done (Next rd (sum pc len) (evened (sum (registerOf x rs1) imm))) m f
+-- what an instruction at pc asks for, over the registers x; next is pc plus the instruction's own length
+unfoldable pub actOf : Inst → ℕ → ℕ → List ℕ → Act
+actOf (Lui rd field) next pc x = Sets rd (upperField field) next
+actOf (Auipc rd field) next pc x = Sets rd (sum pc (upperField field)) next
+-- the link is next
+actOf (Jal rd imm) next pc x = Sets rd next (sum pc imm)
+actOf (Jalr rd rs1 imm) next pc x = Sets rd next (evened (sum (registerOf x rs1) imm))
 -- a branch writes no register: x0 drops the 0
-effectOf (Branch o rs1 rs2 imm) len pc x m f =
-    done (Next x0 0 (cond (takes o (registerOf x rs1) (registerOf x rs2)) (sum pc imm) (sum pc len))) m f
-effectOf (Load o rd rs1 imm) len pc x m f = done (loaded o rd (sum (registerOf x rs1) imm) (sum pc len) m f) m f
-effectOf (Store o rs1 rs2 imm) len pc x m f = stored o (registerOf x rs2) (sum (registerOf x rs1) imm) (sum pc len) m f
-effectOf (Imm o rd rs1 imm) len pc x m f = computes rd (immOf o (registerOf x rs1) imm) len pc m f
-effectOf (Shift o rd rs1 shamt) len pc x m f = computes rd (shiftOf o (registerOf x rs1) shamt) len pc m f
-effectOf (Arith o rd rs1 rs2) len pc x m f = computes rd (arithOf o (registerOf x rs1) (registerOf x rs2)) len pc m f
+actOf (Branch o rs1 rs2 imm) next pc x = Sets x0 0 (cond (takes o (registerOf x rs1) (registerOf x rs2)) (sum pc imm) next)
+actOf (Load o rd rs1 imm) next pc x = Loads o rd (sum (registerOf x rs1) imm) next
+actOf (Store o rs1 rs2 imm) next pc x = Stores o (registerOf x rs2) (sum (registerOf x rs1) imm) next
+actOf (Imm o rd rs1 imm) next pc x = Sets rd (immOf o (registerOf x rs1) imm) next
+actOf (Shift o rd rs1 shamt) next pc x = Sets rd (shiftOf o (registerOf x rs1) shamt) next
+actOf (Arith o rd rs1 rs2) next pc x = Sets rd (arithOf o (registerOf x rs1) (registerOf x rs2)) next
 -- fence does nothing but retire
-effectOf (Fence rd rs1 field) len pc x m f = computes x0 0 len pc m f
-effectOf Ecall len pc x m f = done (Halt S.Ecall) m f
-effectOf Ebreak len pc x m f = done (Halt S.Ebreak) m f
-effectOf (MulDiv o rd rs1 rs2) len pc x m f = computes rd (mulDivOf o (registerOf x rs1) (registerOf x rs2)) len pc m f
+actOf (Fence rd rs1 field) next pc x = Sets x0 0 next
+actOf Ecall next pc x = Ends S.Ecall
+actOf Ebreak next pc x = Ends S.Ebreak
+actOf (MulDiv o rd rs1 rs2) next pc x = Sets rd (mulDivOf o (registerOf x rs1) (registerOf x rs2)) next
+
+-- what comes of it, on the board b: main memory and the fuse row
+unfoldable pub performed : Act → Board → Done
+performed (Sets rd v next) b = outcome (Next rd v next) b
+performed (Loads o rd a next) b = outcome (loaded o rd a next b) b
+performed (Stores o v a next) b = stored o v a next b
+performed (Ends why) b = outcome (Halt why) b

@@ -1,4 +1,4 @@
-// One instruction, over registers, memory and row. It reads the registers and hands an effect back; it never sees the state.
+// One instruction, in two halves: what it asks for, by the registers alone, and what comes of that in memory and row. Neither sees the state.
 use access::Effect;
 use access::load;
 use access::store;
@@ -11,15 +11,28 @@ use alu::shift;
 use answers::Stop;
 use isa::Cond;
 use isa::Inst;
+use isa::LoadOp;
 use isa::Reg;
+use isa::StoreOp;
 use state::read;
 ghost use mathlib.Core.Path.{_≡_};
 ghost use mathlib.Core.Bool.{cond};
 ghost use lib.ListN.{length};
-ghost use Rattle.access.specs.Accesses.{done};
-ghost use Rattle.access.specs.declared.Effect.the-variants.{Next};
+ghost use Rattle.answers.specs.Outcomes.{outcome};
+ghost use Rattle.boards.specs.Boards.{board};
 ghost use Rattle.alu.specs.Arithmetic.{sum, takes};
-ghost use Rattle.execute.specs.Execution.{upperField, evened, effectOf};
+ghost use Rattle.execute.specs.Execution.{upperField, evened, actOf, performed};
+
+// What an instruction asks for. Each but the last ends with the address of the next instruction.
+pub enum Act {
+    // a register gets a value
+    Sets(Reg, u32, u32),
+    // a register gets what is at an address
+    Loads(LoadOp, Reg, u32, u32),
+    // a value goes to an address
+    Stores(StoreOp, u32, u32, u32),
+    Ends(Stop),
+}
 
 fn upper_field(field: u32) -> u32
     ensures { λ r. ⌜ r ≡ upperField field ⌝ }
@@ -43,38 +56,47 @@ fn branch_target(test: Cond, a: u32, b: u32, imm: u32, pc: u32, next: u32) -> u3
     next
 }
 
-fn goes(rd: Reg, value: u32, pc: u32) -> Effect
-    ensures { λ r. ⌜ r ≡ Next rd value pc ⌝ }
+// What the instruction i at pc asks for, over the registers x; next is pc plus its own length.
+pub fn decide(i: Inst, next: u32, pc: u32, x: &[u32; 31]) -> Act
+    ensures { λ r. ⌜ r ≡ actOf i next pc (now (x .entry)) ⌝ }
 {
-    Effect::Next { rd, value, pc }
-}
-
-// The instruction i of len bytes at pc, over the registers x.
-pub fn execute(i: Inst, len: u32, pc: u32, x: &[u32; 31], mem: &mut [u8], row: &mut [u8]) -> Effect
-    requires { ⌜ length (now row) ≡ 512 ⌝ }
-    ensures { λ r. ⌜ done r (now (mem .exit)) (now (row .exit)) ≡ effectOf i len pc (now (x .entry)) (now (mem .entry)) (now (row .entry)) ⌝ }
-{
-    let next = add(pc, len);
     match i {
-        Inst::Lui(rd, field) => goes(rd, upper_field(field), next),
-        Inst::Auipc(rd, field) => goes(rd, add(pc, upper_field(field)), next),
-        Inst::Jal(rd, imm) => goes(rd, next, add(pc, imm)),
-        Inst::Jalr(rd, rs1, imm) => goes(rd, next, even(add(read(x, rs1), imm))),
+        Inst::Lui(rd, field) => Act::Sets(rd, upper_field(field), next),
+        Inst::Auipc(rd, field) => Act::Sets(rd, add(pc, upper_field(field)), next),
+        Inst::Jal(rd, imm) => Act::Sets(rd, next, add(pc, imm)),
+        Inst::Jalr(rd, rs1, imm) => Act::Sets(rd, next, even(add(read(x, rs1), imm))),
         Inst::Branch(test, rs1, rs2, imm) => {
             let target = branch_target(test, read(x, rs1), read(x, rs2), imm, pc, next);
-            goes(Reg::ZERO, 0, target)
+            Act::Sets(Reg::ZERO, 0, target)
         }
-        Inst::Load(op, rd, rs1, imm) => load(op, rd, add(read(x, rs1), imm), next, mem, row),
+        Inst::Load(op, rd, rs1, imm) => Act::Loads(op, rd, add(read(x, rs1), imm), next),
         Inst::Store(op, rs1, rs2, imm) => {
             let address = add(read(x, rs1), imm);
-            store(op, read(x, rs2), address, next, mem, row)
+            Act::Stores(op, read(x, rs2), address, next)
         }
-        Inst::Imm(op, rd, rs1, imm) => goes(rd, arith_imm(op, read(x, rs1), imm), next),
-        Inst::Shift(op, rd, rs1, shamt) => goes(rd, shift(op, read(x, rs1), shamt), next),
-        Inst::Arith(op, rd, rs1, rs2) => goes(rd, arith(op, read(x, rs1), read(x, rs2)), next),
-        Inst::Fence(_, _, _) => goes(Reg::ZERO, 0, next),
-        Inst::Ecall => Effect::Halt(Stop::Ecall),
-        Inst::Ebreak => Effect::Halt(Stop::Ebreak),
-        Inst::MulDiv(op, rd, rs1, rs2) => goes(rd, mul_div(op, read(x, rs1), read(x, rs2)), next),
+        Inst::Imm(op, rd, rs1, imm) => Act::Sets(rd, arith_imm(op, read(x, rs1), imm), next),
+        Inst::Shift(op, rd, rs1, shamt) => Act::Sets(rd, shift(op, read(x, rs1), shamt), next),
+        Inst::Arith(op, rd, rs1, rs2) => Act::Sets(rd, arith(op, read(x, rs1), read(x, rs2)), next),
+        Inst::Fence(_, _, _) => Act::Sets(Reg::ZERO, 0, next),
+        Inst::Ecall => Act::Ends(Stop::Ecall),
+        Inst::Ebreak => Act::Ends(Stop::Ebreak),
+        Inst::MulDiv(op, rd, rs1, rs2) => Act::Sets(
+            rd,
+            mul_div(op, read(x, rs1), read(x, rs2)),
+            next,
+        ),
+    }
+}
+
+// What comes of it.
+pub fn perform(act: Act, mem: &mut [u8], row: &mut [u8]) -> Effect
+    requires { ⌜ length (now row) ≡ 512 ⌝ }
+    ensures { λ r. ⌜ outcome r (board (now (mem .exit)) (now (row .exit))) ≡ performed act (board (now (mem .entry)) (now (row .entry))) ⌝ }
+{
+    match act {
+        Act::Sets(rd, value, pc) => Effect::Next { rd, value, pc },
+        Act::Loads(op, rd, address, next) => load(op, rd, address, next, mem, row),
+        Act::Stores(op, v, address, next) => store(op, v, address, next, mem, row),
+        Act::Ends(why) => Effect::Halt(why),
     }
 }

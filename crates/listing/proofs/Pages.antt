@@ -9,9 +9,10 @@ use native.Mathlib.Omega.{arith}
 use lib.ListN.{length, length-append}
 use lib.Dec.{ltb}
 use borrow.Author.Tests.{lt-ltb, le-ltb, le-leb, lt-leb}
+use Rattle.answers.specs.Outcomes.{outcome}
 use Rattle.word.proofs.Bools.{below}
 use Rattle.listing.specs.declared.Listed.{Listed}
-use Rattle.listing.specs.Listing.{Lines, lines, lineAt, linesFrom, before, pageFrom, pageOf, Page, page, listEntry}
+use Rattle.listing.specs.Listing.{Lines, lines, lineAt, linesFrom, before, pageFrom, pageOf, listEntry}
 use Rattle.octets.proofs.Bytes.{Bytes}
 use Rattle.listing.proofs.Lines.{line-fits, line-moves}
 
@@ -106,11 +107,11 @@ module _ (image : List ℕ) where
 
 -- ---- what `list` answers
 
-module _ (image : List ℕ) (a : ℕ) (room : List ℕ) {room' : List ℕ} {r : Listed} (e : page r room' ≡ listEntry image a room) where
+module _ (image : List ℕ) (a : ℕ) (room : List ℕ) {room' : List ℕ} {r : Listed} (e : outcome r room' ≡ listEntry image a room) where
   -- within the room
   pub listed-fits : length room' ≡ length room → r .length ≤ length room
-  listed-fits h = omega (arith, ap (λ (p : Page). p .answer .length) e, simp length-append at (ap (λ (p : Page). length (p .room)) e))
+  listed-fits h = omega (arith, ap (λ p. p .answer .length) e, simp length-append at (ap (λ p. length (p .lent)) e))
 
   -- and further on, where there is room for a line
   pub listed-moves : a < length image → 38 ≤ length room → a < r .next
-  listed-moves h k = rw (ap (λ (p : Page). p .answer .next) e) (page-moves image (length room) a h k)
+  listed-moves h k = rw (ap (λ p. p .answer .next) e) (page-moves image (length room) a h k)

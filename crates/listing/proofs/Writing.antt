@@ -5,9 +5,10 @@ use mathlib.Core.List.{List, [], _++_, append-assoc, append-nil}
 use Prim.Native.Nat.{ℕ, zero, suc, _+_, _-_, _≤_, _<_}
 use native.Mathlib.Omega.{arith}
 use lib.ListN.{length, length-append}
+use Rattle.answers.specs.Outcomes.{outcome}
 use Rattle.ascii.specs.Rooms.{Wrote}
 use Rattle.ascii.proofs.Rooms.{then, nothing, at-front}
-use Rattle.listing.specs.Listing.{lines, lineAt, before, pageFrom, pageOf, page, listEntry}
+use Rattle.listing.specs.Listing.{lines, lineAt, before, pageFrom, pageOf, listEntry}
 use Rattle.octets.proofs.Bytes.{Bytes}
 use Rattle.listing.proofs.Lines.{line-fits, line-moves}
 use Rattle.listing.proofs.Pages.{page-end, page-on, following}
@@ -49,7 +50,7 @@ module _ (image : List ℕ) (from : ℕ) (room₀ : List ℕ) where
           }
 
   pub ends : {room : List ℕ} {end next : ℕ} → (length image ≤ next) ⊎ (length room₀ < end + 38) → Written image from room₀ room end next
-      → page (record { length = end; next = next }) room ≡ listEntry image from room₀
+      → outcome (record { length = end; next = next }) room ≡ listEntry image from room₀
   ends {next = a} h w =
       let f = at-front (w .wrote) (w .fits) in
       let g : (length image ≤ a) ⊎ (length room₀ - length (w .text) < 38) = ⊎-elim (λ k. inl k) (λ k. inr (omega (arith, f .1))) h in

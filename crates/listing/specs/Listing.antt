@@ -4,6 +4,7 @@ use mathlib.Core.Bool.{cond, _&&_}
 use mathlib.Core.List.{List, [], _++_}
 use lib.ListN.{length}
 use lib.Dec.{eqb, ltb, leb}
+use Rattle.answers.specs.Outcomes.{Outcome, outcome}
 use Rattle.ascii.specs.Ascii.{bytes}
 use Rattle.ascii.specs.Numbers.{hex}
 use Rattle.ascii.specs.Rooms.{fronted}
@@ -86,15 +87,8 @@ pageOf image left a = pageFrom (length image) image left a
 
 -- what `list` answers and leaves: the page's length and the address after it, and the page at the front of the room
 
-pub record Page : Type 0 where
-  pub answer : Listed
-  pub room : List ℕ
+abbrev pub paged : Lines → List ℕ → Outcome Listed (List ℕ)
+paged p room = outcome (record { length = length (p .text); next = p .next }) (fronted (p .text) room)
 
-abbrev pub page : Listed → List ℕ → Page
-page a room = record { answer = a; room = room }
-
-abbrev pub paged : Lines → List ℕ → Page
-paged p room = page (record { length = length (p .text); next = p .next }) (fronted (p .text) room)
-
-abbrev pub listEntry : List ℕ → ℕ → List ℕ → Page
+abbrev pub listEntry : List ℕ → ℕ → List ℕ → Outcome Listed (List ℕ)
 listEntry image a room = paged (pageOf image (length room) a) room

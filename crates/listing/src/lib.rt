@@ -14,11 +14,12 @@ ghost use mathlib.Core.Path.{_≡_};
 ghost use mathlib.Core.List.{_++_};
 ghost use Prim.Native.Nat.{_+_, _≤_, _<_};
 ghost use lib.ListN.{length};
+ghost use Rattle.answers.specs.Outcomes.{outcome};
 ghost use Rattle.ascii.specs.Ascii.{bytes};
 ghost use Rattle.ascii.specs.Numbers.{hex};
 ghost use Rattle.ascii.specs.Rooms.{Wrote};
 ghost use Rattle.octets.specs.Bytes.{load};
-ghost use Rattle.listing.specs.Listing.{shownAt, sizeOf, shownText, lineAt, page, listEntry};
+ghost use Rattle.listing.specs.Listing.{shownAt, sizeOf, shownText, lineAt, listEntry};
 
 // What `list` answers: the length of what it wrote, and the address of the line that comes next.
 pub struct Listed {
@@ -137,7 +138,7 @@ fn put_line(image: &[u8], at: usize, room: &mut [u8], from: usize) -> Line
 // Whole lines from an address of the image on, as long as there are any and the room has place for
 // the longest; a room under 38 bytes gets none.
 pub fn list(image: &[u8], from: usize, room: &mut [u8]) -> Listed
-    ensures { λ r. ⌜ page r (now (room .exit)) ≡ listEntry (now (image .entry)) from (now (room .entry)) ⌝ }
+    ensures { λ r. ⌜ outcome r (now (room .exit)) ≡ listEntry (now (image .entry)) from (now (room .entry)) ⌝ }
 {
     let mut length = 0;
     let mut next = from;

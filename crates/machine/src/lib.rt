@@ -5,8 +5,10 @@ use boards::check_board;
 use engine::run_steps;
 use state::State;
 ghost use mathlib.Core.Path.{_≡_};
-ghost use Rattle.engine.specs.Steps.{world};
-ghost use Rattle.machine.specs.Entries.{checked, outcome, stepEntry, runEntry};
+ghost use Rattle.answers.specs.Outcomes.{outcome};
+ghost use Rattle.boards.specs.Boards.{board};
+ghost use Rattle.engine.specs.Steps.{world, checked};
+ghost use Rattle.machine.specs.Entries.{stepEntry, runEntry};
 
 // What `step` answers: the next state, or a refusal and no state.
 pub struct Stepped {
@@ -23,7 +25,7 @@ pub struct Ran {
 
 // Refusals 1, 2, 3 and 5.
 fn check(s: State, mem: &[u8], row: &[u8]) -> Check
-    ensures { λ r. ⌜ r ≡ checked (world s (now (mem .entry)) (now (row .entry))) ⌝ }
+    ensures { λ r. ⌜ r ≡ checked (world s (board (now (mem .entry)) (now (row .entry)))) ⌝ }
 {
     if let Check::Refused(r) = check_board(mem, row) {
         return Check::Refused(r);
@@ -36,7 +38,7 @@ fn check(s: State, mem: &[u8], row: &[u8]) -> Check
 
 // One step. Refuses with 1, 2, 3 and 5.
 pub fn step(s: State, mem: &mut [u8], row: &mut [u8]) -> Stepped
-    ensures { λ r. ⌜ outcome r (now (mem .exit)) (now (row .exit)) ≡ stepEntry (world s (now (mem .entry)) (now (row .entry))) ⌝ }
+    ensures { λ r. ⌜ outcome r (board (now (mem .exit)) (now (row .exit))) ≡ stepEntry (world s (board (now (mem .entry)) (now (row .entry)))) ⌝ }
 {
     if let Check::Refused(r) = check(s, mem, row) {
         return Stepped {
@@ -52,7 +54,7 @@ pub fn step(s: State, mem: &mut [u8], row: &mut [u8]) -> Stepped
 
 // A run of at most budget steps. Refuses with 1, 2, 3 and 5.
 pub fn run(s: State, mem: &mut [u8], row: &mut [u8], budget: u64) -> Ran
-    ensures { λ r. ⌜ outcome r (now (mem .exit)) (now (row .exit)) ≡ runEntry budget (world s (now (mem .entry)) (now (row .entry))) ⌝ }
+    ensures { λ r. ⌜ outcome r (board (now (mem .exit)) (now (row .exit))) ≡ runEntry budget (world s (board (now (mem .entry)) (now (row .entry)))) ⌝ }
 {
     if let Check::Refused(r) = check(s, mem, row) {
         return Ran {

@@ -1,4 +1,4 @@
--- Little-endian numbers, over the width: a load or a store of n + k bytes is one of n and one of k, and a load beside a store is what it was. Assumes nothing.
+-- Little-endian numbers, over the width: a load or a store of n + k bytes is one of n and one of k, a load beside a store is what it was, and bytes stay bytes. Assumes nothing.
 use Prim.Native.Nat.{ℕ, zero, suc, _+_, _-_, _*_, _/_, _%_, _^_, _≤_, _<_}
 use native.Mathlib.Nat.{add-assoc, zero-add, suc-add, mul-assoc, div-one}
 use native.Mathlib.Numerals.{add-one}
@@ -7,7 +7,7 @@ use mathlib.Core.Path.{_≡_, refl, sym, ap}
 use mathlib.Core.Logic.{_⊎_, inl, inr}
 use mathlib.Core.List.{List, [], _∷_, _++_, append-assoc}
 use Rattle.word.specs.Bounds.{AllBelow}
-use Rattle.word.proofs.Bounds.{below-get}
+use Rattle.word.proofs.Bounds.{below-append, below-take, below-drop, below-get}
 use lib.ListN.{length, take, drop, getD, set, length-append, length-take, length-drop, take-append-drop}
 use lib.Seq.{take-append-le, drop-append-le, take-add, drop-drop, length-take-le, take-at, drop-at, drop-cons, set-split, append-snoc, getD-drop}
 use lib.Pow.{pow-pos, pow-add, shr-shr, field, mod-mod-pow, mod-pow-add}
@@ -143,3 +143,17 @@ loaded-lt n a m h = of-lt n (drop a m) (λ k. rw getD-drop (h (a + k)))
 
 pub load-lt : (n a : ℕ) (m : List ℕ) → AllBelow (2 ^ 8) m → load n a m < 2 ^ (8 * n)
 load-lt n a m h = loaded-lt n a m (all-bytes m h)
+
+-- ---- bytes stay bytes
+
+le-below : (n v : ℕ) → AllBelow (2 ^ 8) (littleEndian n v)
+unfolding littleEndian
+le-below zero v = tt
+le-below (suc n) v = (omega arith, le-below n (v / 256))
+
+pub store-below : (n a v : ℕ) (m : List ℕ) → AllBelow (2 ^ 8) m → AllBelow (2 ^ 8) (store n a v m)
+unfolding store
+store-below n a v m h =
+    below-append (2 ^ 8) (take a m ++ littleEndian n v) (drop (a + n) m)
+    (below-append (2 ^ 8) (take a m) (littleEndian n v) (below-take (2 ^ 8) a m h) (le-below n v))
+    (below-drop (2 ^ 8) (a + n) m h)

@@ -1,9 +1,5 @@
 pub mod Refusals
 pub mod Steps
-pub mod Fuses
-pub mod Bounds
-pub mod Invariants
 pub mod Cuts
 pub mod Burning
-pub mod Determined
 pub mod Divisions

@@ -2,5 +2,4 @@ pub mod Refusals
 pub mod Steps
 pub mod Cuts
 pub mod Burning
-pub mod Determined
 pub mod Divisions

@@ -2,38 +2,36 @@
 -- Each statement is proved in proofs/Refusals.antt.
 use mathlib.Core.Path.{_≡_}
 use mathlib.Core.Bool.{false}
-use mathlib.Core.Logic.{_↔_, _⊎_}
+use mathlib.Core.Logic.{_⊎_}
 use mathlib.Core.List.{List}
 use Prim.Native.Nat.{ℕ, _%_, _/_, _≤_, _<_}
 use lib.ListN.{length}
 use Rattle.answers.specs.Stops.{lastStop}
-use Rattle.answers.specs.Answer.{Answer, refusedWith}
-use Rattle.answers.specs.Checks.{ofCheck}
-use Rattle.answers.specs.declared.Check.{Check}
 use Rattle.answers.specs.Order.{refusal, noRefusal}
+use Rattle.answers.specs.Entries.{Refuses, Keeps, Silent, Determines}
 use Rattle.octets.specs.Bytes.{load}
-use Rattle.part.specs.Row.{keepsRules}
+use Rattle.fuses.specs.Row.{keepsRules}
 use Rattle.state.specs.declared.State.{State}
+use Rattle.boards.specs.Boards.{Board, longestMemory}
 use Rattle.engine.specs.Steps.{World}
-use Rattle.boards.specs.Boards.{longestMemory}
 use Rattle.machine.specs.Entries.{stepEntry, ofStepped, runEntry, ofRan}
 use Rattle.records.specs.Records.{stateOf}
 use Rattle.slots.specs.Slots.{slotAt, writeEntry, ofWrite, readEntry, ofReadBack}
-use Rattle.resume.specs.Resuming.{resumeEntry, ofResumed}
+use Rattle.resume.specs.Resuming.{Bench, resumeEntry, ofResumed}
 
 -- ---- the rows of the table
 
 -- 1: memory longer than 65,536
-abbrev pub TooLong : List ℕ → Type 0
-TooLong m = longestMemory < length m
+abbrev pub TooLong : Board → Type 0
+TooLong b = longestMemory < length (b .mem)
 
 -- 2: row not 512 bytes
-abbrev pub NotARow : List ℕ → Type 0
-NotARow f = length f ≡ 512 → ⊥
+abbrev pub NotARow : Board → Type 0
+NotARow b = length (b .row) ≡ 512 → ⊥
 
 -- 3: a row record breaks its rules
-abbrev pub RecordBreaks : List ℕ → Type 0
-RecordBreaks f = (k : ℕ) × (k < 64) × (keepsRules k f ≡ false)
+abbrev pub RecordBreaks : Board → Type 0
+RecordBreaks b = (k : ℕ) × (k < 64) × (keepsRules k (b .row) ≡ false)
 
 -- 4: slot buffer not a multiple of 144, or no such slot
 abbrev pub NoSlot : ℕ → List ℕ → Type 0
@@ -50,12 +48,12 @@ RecordMalformed r = Malformed (stateOf r) ⊎ (load 7 137 r ≡ 0 → ⊥)
 -- ---- the order of the entries
 
 -- the rows of memory and fuse row, then those that follow
-abbrev pub boardRows : List ℕ → List ℕ → (ℕ → Type 0) → ℕ → Type 0
-boardRows m f later = refusal 1 (TooLong m) (refusal 2 (NotARow f) (refusal 3 (RecordBreaks f) later))
+abbrev pub boardRows : Board → (ℕ → Type 0) → ℕ → Type 0
+boardRows b later = refusal 1 (TooLong b) (refusal 2 (NotARow b) (refusal 3 (RecordBreaks b) later))
 
 -- those of step and run
 abbrev pub machineRows : World → ℕ → Type 0
-machineRows w = boardRows (w .mem) (w .row) (refusal 5 (Malformed (w .st)) noRefusal)
+machineRows w = boardRows (w .board) (refusal 5 (Malformed (w .st)) noRefusal)
 
 abbrev pub writeRows : ℕ → State → List ℕ → ℕ → Type 0
 writeRows k s slots = refusal 4 (NoSlot k slots) (refusal 5 (Malformed s) noRefusal)
@@ -63,52 +61,63 @@ writeRows k s slots = refusal 4 (NoSlot k slots) (refusal 5 (Malformed s) noRefu
 abbrev pub readRows : ℕ → List ℕ → ℕ → Type 0
 readRows k slots = refusal 4 (NoSlot k slots) (refusal 5 (RecordMalformed (slotAt k slots)) noRefusal)
 
+abbrev pub resumeRows : ℕ → Bench → ℕ → Type 0
+resumeRows k h = boardRows (h .board) (readRows k (h .slots))
+
 -- ---- exactly if
 
 abbrev pub StepRefuses : Type 0
-StepRefuses = (w : World) (n : ℕ) → (ofStepped (stepEntry w .answer) ≡ refusedWith n) ↔ machineRows w n
+StepRefuses = (w : World) → Refuses ofStepped (stepEntry w) (machineRows w)
 
 abbrev pub RunRefuses : Type 0
-RunRefuses = (b : ℕ) (w : World) (n : ℕ) → (ofRan (runEntry b w .answer) ≡ refusedWith n) ↔ machineRows w n
+RunRefuses = (b : ℕ) (w : World) → Refuses ofRan (runEntry b w) (machineRows w)
 
 abbrev pub WriteRefuses : Type 0
-WriteRefuses = (k : ℕ) (s : State) (slots : List ℕ) (n : ℕ) → (ofWrite (writeEntry k s slots) ≡ refusedWith n) ↔ writeRows k s slots n
+WriteRefuses = (k : ℕ) (s : State) (slots : List ℕ) → Refuses ofWrite (writeEntry k s slots) (writeRows k s slots)
 
 abbrev pub ReadRefuses : Type 0
-ReadRefuses = (k : ℕ) (slots : List ℕ) (n : ℕ) → (ofReadBack (readEntry k slots) ≡ refusedWith n) ↔ readRows k slots n
+ReadRefuses = (k : ℕ) (slots : List ℕ) → Refuses ofReadBack (readEntry k slots) (readRows k slots)
 
 abbrev pub ResumeRefuses : Type 0
-ResumeRefuses =
-    (b k : ℕ) (m f slots : List ℕ) (n : ℕ)
-    → (ofResumed (resumeEntry b k m f slots .answer) ≡ refusedWith n) ↔ boardRows m f (readRows k slots) n
+ResumeRefuses = (b k : ℕ) (h : Bench) → Refuses ofResumed (resumeEntry b k h) (resumeRows k h)
 
 -- ---- every lent byte kept
 
 abbrev pub StepKeeps : Type 0
-StepKeeps = (w : World) (n : ℕ) → ofStepped (stepEntry w .answer) ≡ refusedWith n → (stepEntry w .mem ≡ w .mem) × (stepEntry w .row ≡ w .row)
+StepKeeps = (w : World) → Keeps ofStepped (stepEntry w) (w .board)
 
 abbrev pub RunKeeps : Type 0
-RunKeeps = (b : ℕ) (w : World) (n : ℕ) → ofRan (runEntry b w .answer) ≡ refusedWith n → (runEntry b w .mem ≡ w .mem) × (runEntry b w .row ≡ w .row)
+RunKeeps = (b : ℕ) (w : World) → Keeps ofRan (runEntry b w) (w .board)
 
 abbrev pub WriteKeeps : Type 0
-WriteKeeps = (k : ℕ) (s : State) (slots : List ℕ) (n : ℕ) → ofWrite (writeEntry k s slots) ≡ refusedWith n → writeEntry k s slots .slots ≡ slots
+WriteKeeps = (k : ℕ) (s : State) (slots : List ℕ) → Keeps ofWrite (writeEntry k s slots) slots
 
 abbrev pub ResumeKeeps : Type 0
-ResumeKeeps =
-    (b k : ℕ) (m f slots : List ℕ) (n : ℕ)
-    → ofResumed (resumeEntry b k m f slots .answer) ≡ refusedWith n
-    → (resumeEntry b k m f slots .mem ≡ m) × (resumeEntry b k m f slots .row ≡ f) × (resumeEntry b k m f slots .slots ≡ slots)
+ResumeKeeps = (b k : ℕ) (h : Bench) → Keeps ofResumed (resumeEntry b k h) h
 
 -- ---- a refusal returns its number and no other fact
 
--- two calls that are refused with one number answer the same, whatever was lent to them; read says what an answer is in the paper's terms
-abbrev pub Silent : {I A B : Type 0} → (A → Answer B) → (I → A) → Type 0
-Silent {I} read entry = (i j : I) (n : ℕ) → read (entry i) ≡ refusedWith n → read (entry j) ≡ refusedWith n → entry i ≡ entry j
-
 abbrev pub NoOtherFact : Type 0
 NoOtherFact =
-    Silent ofStepped (λ (w : World). stepEntry w .answer)
-    × Silent ofRan (λ (i : ℕ × World). runEntry (i .0) (i .1) .answer)
-    × Silent (λ (c : Check). ofCheck {A = Unit {0}} c tt) (λ (i : ℕ × State × List ℕ). writeEntry (i .0) (i .1) (i .2) .check)
+    Silent ofStepped stepEntry
+    × Silent ofRan (λ (i : ℕ × World). runEntry (i .0) (i .1))
+    × Silent ofWrite (λ (i : ℕ × State × List ℕ). writeEntry (i .0) (i .1) (i .2))
     × Silent ofReadBack (λ (i : ℕ × List ℕ). readEntry (i .0) (i .1))
-    × Silent ofResumed (λ (i : ℕ × ℕ × List ℕ × List ℕ × List ℕ). resumeEntry (i .0) (i .1) (i .2) (i .3) (i .4) .answer)
+    × Silent ofResumed (λ (i : ℕ × ℕ × Bench). resumeEntry (i .0) (i .1) (i .2))
+
+-- ---- "Show that any two outcomes it allows are equal": a contract is an equation, of the answer and of each lent buffer as the call leaves it, to what an entry says of its input
+
+abbrev pub StepDetermined : Type 0
+StepDetermined = (w : World) → Determines (stepEntry w)
+
+abbrev pub RunDetermined : Type 0
+RunDetermined = (b : ℕ) (w : World) → Determines (runEntry b w)
+
+abbrev pub WriteDetermined : Type 0
+WriteDetermined = (k : ℕ) (s : State) (slots : List ℕ) → Determines (writeEntry k s slots)
+
+abbrev pub ReadDetermined : Type 0
+ReadDetermined = (k : ℕ) (slots : List ℕ) → Determines (readEntry k slots)
+
+abbrev pub ResumeDetermined : Type 0
+ResumeDetermined = (b k : ℕ) (h : Bench) → Determines (resumeEntry b k h)

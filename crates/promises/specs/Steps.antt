@@ -12,8 +12,10 @@ use Rattle.isa.specs.declared.Inst.{Inst}
 use Rattle.octets.specs.Bytes.{load}
 use Rattle.alu.specs.Arithmetic.{sum}
 use Rattle.state.specs.States.{state}
-use Rattle.execute.specs.Execution.{effectOf}
-use Rattle.engine.specs.Steps.{World, world, effectAt, paused, stepped, completes, ran, retired}
+use Rattle.boards.specs.Boards.{Board}
+use Rattle.access.specs.Accesses.{Done}
+use Rattle.execute.specs.Execution.{actOf, performed}
+use Rattle.engine.specs.Steps.{World, world, actAt, paused, stepped, completes, ran, retired}
 use Rattle.machine.specs.Entries.{stepEntry, ofStepped, runEntry, ofRan}
 use Rattle.promises_codes.specs.Instructions.{encodes, expands}
 use Rattle.promises.specs.Refusals.{machineRows}
@@ -22,29 +24,34 @@ use Rattle.promises.specs.Refusals.{machineRows}
 abbrev pub Accepted : World → Type 0
 Accepted w = (n : ℕ) → machineRows w n → ⊥
 
--- an accepted step is the manual's step: state, memory and row
+-- an accepted step is the manual's step: state and board
 abbrev pub StepIsManual : Type 0
-StepIsManual =
-    (w : World) → Accepted w
-    → (ofStepped (stepEntry w .answer) ≡ given (stepped w .st)) × (stepEntry w .mem ≡ stepped w .mem) × (stepEntry w .row ≡ stepped w .row)
+StepIsManual = (w : World) → Accepted w → (ofStepped (stepEntry w .answer) ≡ given (stepped w .st)) × (stepEntry w .lent ≡ stepped w .board)
 
 -- an accepted run is so many of the manual's steps, and answers how many of them completed
 abbrev pub RunIsManual : Type 0
 RunIsManual =
     (b : ℕ) (w : World) → Accepted w
-    → (ofRan (runEntry b w .answer) ≡ given (ran b w .st, retired b w)) × (runEntry b w .mem ≡ ran b w .mem) × (runEntry b w .row ≡ ran b w .row)
+    → (ofRan (runEntry b w .answer) ≡ given (ran b w .st, retired b w)) × (runEntry b w .lent ≡ ran b w .board)
 
--- where memory has, at pc, a halfword that stands for i, and another memory the word of i, both do what i does: once with length 2, once with 4
+-- what the instruction i of len bytes at pc does, and what the bytes at pc do, with the registers x on the board b
+abbrev pub effectOf : Inst → ℕ → ℕ → List ℕ → Board → Done
+effectOf i len pc x b = performed (actOf i (sum pc len) pc x) b
+
+abbrev pub effectAt : ℕ → List ℕ → Board → Done
+effectAt pc x b = performed (actAt pc x (b .mem)) b
+
+-- where memory has, at pc, a halfword that stands for i, and the memory of another board the word of i, both do what i does: once with length 2, once with 4
 abbrev pub ShortActsAsLong : Type 0
 ShortActsAsLong =
-    (i : Inst) (pc : ℕ) (x f m2 m4 : List ℕ)
-    → pc + 2 ≤ length m2 → expands (load 2 pc m2) ≡ given i
-    → pc + 4 ≤ length m4 → encodes i ≡ given (load 4 pc m4)
-    → (effectAt pc x m2 f ≡ effectOf i 2 pc x m2 f) × (effectAt pc x m4 f ≡ effectOf i 4 pc x m4 f)
+    (i : Inst) (pc : ℕ) (x : List ℕ) (b2 b4 : Board)
+    → pc + 2 ≤ length (b2 .mem) → expands (load 2 pc (b2 .mem)) ≡ given i
+    → pc + 4 ≤ length (b4 .mem) → encodes i ≡ given (load 4 pc (b4 .mem))
+    → (effectAt pc x b2 ≡ effectOf i 2 pc x b2) × (effectAt pc x b4 ≡ effectOf i 4 pc x b4)
 
 -- but for its length: the length of an instruction enters only in pc plus the length
 abbrev pub LengthOnly : Type 0
-LengthOnly = (i : Inst) (a b pc : ℕ) (x m f : List ℕ) → sum pc a ≡ sum pc b → effectOf i a pc x m f ≡ effectOf i b pc x m f
+LengthOnly = (i : Inst) (m n pc : ℕ) (x : List ℕ) (b : Board) → sum pc m ≡ sum pc n → effectOf i m pc x b ≡ effectOf i n pc x b
 
 -- ---- the rules of a step and of a run
 
@@ -52,16 +59,15 @@ LengthOnly = (i : Inst) (a b pc : ℕ) (x m f : List ℕ) → sum pc a ≡ sum p
 abbrev pub StopsCleanly : Type 0
 StopsCleanly =
     (w : World) → paused w ≡ true → completes w ≡ false
-    → (n : ℕ) × (1 ≤ n) × (n ≤ lastStop) × (stepped w ≡ world (state (w .st .pc) (w .st .x) (w .st .count) n) (w .mem) (w .row))
+    → (n : ℕ) × (1 ≤ n) × (n ≤ lastStop) × (stepped w ≡ world (state (w .st .pc) (w .st .x) (w .st .count) n) (w .board))
 
--- a step is a run of budget 1, refused or not: check, state, memory and row
+-- a step is a run of budget 1, refused or not: check, state and board
 abbrev pub StepIsRun : Type 0
 StepIsRun =
     (w : World)
     → (stepEntry w .answer .check ≡ runEntry 1 w .answer .check)
     × (stepEntry w .answer .state ≡ runEntry 1 w .answer .state)
-    × (stepEntry w .mem ≡ runEntry 1 w .mem)
-    × (stepEntry w .row ≡ runEntry 1 w .row)
+    × (stepEntry w .lent ≡ runEntry 1 w .lent)
 
 -- a run retires at most the budget, and the count grows by the number retired
 abbrev pub Counts : Type 0

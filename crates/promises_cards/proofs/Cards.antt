@@ -5,6 +5,7 @@ use mathlib.Core.List.{List}
 use Prim.Native.Nat.{ℕ, _+_}
 use native.Mathlib.Nat.{add-zero}
 use borrow.Author.Tests.{eqb-false}
+use Rattle.answers.specs.Outcomes.{Outcome, decided}
 use Rattle.answers.specs.declared.Check.{Check}
 use Rattle.answers.specs.declared.Check.the-variants.{Passed, Refused}
 use Rattle.isa.specs.declared.Inst.the-variants.{Imm}
@@ -18,22 +19,23 @@ use Rattle.shortest.specs.Trial.{tryFor}
 use Rattle.shortest.proofs.Shortest.{by-one}
 use Rattle.octets.specs.Bytes.{littleEndian, ofLittleEndian, load, store}
 use Rattle.place.specs.Map.{placed}
-use Rattle.part.specs.Row.{allKeep, burnt}
-use Rattle.access.specs.Accesses.{loadedFrom, storedTo}
-use Rattle.execute.specs.Execution.{effectOf}
+use Rattle.fuses.specs.Row.{allKeep, burnt}
+use Rattle.boards.specs.Boards.{Board}
+use Rattle.access.specs.Accesses.{loadedFrom, storedWord, storedTo}
+use Rattle.execute.specs.Execution.{actOf, performed}
 use Rattle.fetch.specs.Fetching.{fetchedWith, fetched}
-use Rattle.engine.specs.Steps.{World, effectFetched, next, applied, paused, stepped, ran, retired}
+use Rattle.engine.specs.Steps.{World, checked, actFetched, asked, applied, paused, stepped, ran, retired}
 use Rattle.machine.specs.declared.Ran.{Ran}
-use Rattle.machine.specs.Entries.{Outcome, checked, runDecided, runEntry}
+use Rattle.machine.specs.Entries.{runGiven, noRun, runEntry}
 use Rattle.engine.proofs.Laws.{ran-add, ran-stopped, retired-add, retired-stopped}
 use Rattle.promises_cards.specs.Cards.{cards, Claim, endOf, start, blank, image, spent}
 
 -- a run that has stopped after a steps ends so with any larger budget
 run-end : (a b : ℕ) (w : World) → paused (ran a w) ≡ false → runEntry (a + b) w ≡ runEntry a w
-unfolding runDecided
+unfolding decided
 run-end a b w p = go (checked w)
   where
-    go : (c : Check) → runDecided c (a + b) w ≡ runDecided c a w
+    go : (c : Check) → decided c (runGiven (a + b) w) noRun (w .board) ≡ decided c (runGiven a w) noRun (w .board)
     go Passed = let h = eqb-false _ _ p in rw (ran-add, retired-add, ran-stopped b (ran a w) h, retired-stopped b (ran a w) h, add-zero)
     go (Refused r) = refl
 
@@ -41,8 +43,8 @@ run-end a b w p = go (checked w)
 abbrev spent-row : List ℕ
 spent-row = burnt 0 7 blank
 
-stops : (paused (ran 4 (start image blank)) ≡ false) × (runEntry 4 (start image blank) .row ≡ spent-row) × (paused (ran 3 (start image spent-row)) ≡ false)
-unfolding decoded expanded littleEndian ofLittleEndian load store placed burnt loadedFrom storedTo effectOf fetchedWith fetched effectFetched next applied stepped ran allKeep runDecided
+stops : (paused (ran 4 (start image blank)) ≡ false) × (runEntry 4 (start image blank) .lent .row ≡ spent-row) × (paused (ran 3 (start image spent-row)) ≡ false)
+unfolding decoded expanded littleEndian ofLittleEndian load store placed burnt loadedFrom storedWord storedTo actOf performed fetchedWith fetched actFetched asked applied stepped ran allKeep decided
 stops = (refl, refl, refl)
 
 first-run : runEntry 100 (start image blank) ≡ runEntry 4 (start image blank)
@@ -50,11 +52,11 @@ first-run = run-end 4 96 (start image blank) (stops .0)
 
 second-run : runEntry 100 (start image spent) ≡ runEntry 3 (start image spent-row)
 second-run =
-    ap (λ f. runEntry 100 (start image f)) (ap (λ (o : Outcome Ran). o .row) first-run ∙ stops .1)
+    ap (λ f. runEntry 100 (start image f)) (ap (λ (o : Outcome Ran Board). o .lent .row) first-run ∙ stops .1)
     ∙ run-end 3 97 (start image spent-row) (stops .2)
 
 pub cards-hold : Claim cards
-unfolding decoded expanded inRange tryFor littleEndian ofLittleEndian load store placed burnt loadedFrom storedTo effectOf fetchedWith fetched effectFetched next applied stepped ran retired allKeep runDecided
+unfolding decoded expanded inRange tryFor littleEndian ofLittleEndian load store placed burnt loadedFrom storedWord storedTo actOf performed fetchedWith fetched actFetched asked applied stepped ran retired allKeep decided
 cards-hold = (
   (refl, tt),
   (

@@ -6,6 +6,7 @@ use lib.ListN.{replicate}
 use Rattle.answers.specs.Answer.{Answer, given, refused}
 use Rattle.answers.specs.declared.Refusal.the-variants.{NoInstruction}
 use Rattle.answers.specs.Checks.{ofCheck}
+use Rattle.answers.specs.Outcomes.{Outcome}
 use Rattle.isa.specs.declared.Reg.{Reg}
 use Rattle.isa.specs.declared.Inst.{Inst}
 use Rattle.isa.specs.declared.Inst.the-variants.{Jalr, Branch, Imm, Ebreak}
@@ -18,12 +19,13 @@ use Rattle.isa.specs.declared.MulDivOp.the-variants.{Mulh, Mulhsu}
 use Rattle.isa.specs.Registers.{reg, x0, ra, sp}
 use Rattle.alu.specs.Arithmetic.{mulDivOf}
 use Rattle.octets.specs.Bytes.{littleEndian}
-use Rattle.part.specs.Row.{valueAt, markAt}
+use Rattle.fuses.specs.Row.{valueAt, markAt}
+use Rattle.boards.specs.Boards.{Board, board}
 use Rattle.access.specs.Accesses.{loaded}
 use Rattle.access.specs.declared.Effect.the-variants.{Next}
 use Rattle.state.specs.States.{state, fresh}
 use Rattle.engine.specs.Steps.{World, world, stepped}
-use Rattle.machine.specs.Entries.{Outcome, runEntry}
+use Rattle.machine.specs.Entries.{runEntry}
 use Rattle.machine.specs.declared.Ran.{Ran}
 use Rattle.promises_codes.specs.Instructions.{decodes, expands, shortens}
 
@@ -38,14 +40,14 @@ pub record End : Type 0 where
 abbrev pub end : ℕ → ℕ → ℕ → ℕ → ℕ → Answer End
 end retired stop pc mark value = given (record { retired = retired; stop = stop; pc = pc; mark = mark; value = value })
 
-abbrev pub endOf : Outcome Ran → Answer End
+abbrev pub endOf : Outcome Ran Board → Answer End
 endOf o =
     ofCheck (o .answer .check)
-    (record { retired = o .answer .retired; stop = o .answer .state .stop; pc = o .answer .state .pc; mark = markAt 0 (o .row); value = valueAt 0 (o .row) })
+    (record { retired = o .answer .retired; stop = o .answer .state .stop; pc = o .answer .state .pc; mark = markAt 0 (o .lent .row); value = valueAt 0 (o .lent .row) })
 
 -- a recipe's image started on a row
 abbrev pub start : List ℕ → List ℕ → World
-start image f = world fresh image f
+start image f = world fresh (board image f)
 
 -- what a card says
 pub data Fact : Type 0 where
@@ -69,7 +71,7 @@ Holds (long w a) = decodes w ≡ a
 Holds (short h a) = expands h ≡ a
 Holds (shorter i a) = shortens i ≡ a
 Holds (computed o a b v) = mulDivOf o a b ≡ v
-Holds (loads o a m v) = (rd : Reg) (next : ℕ) (f : List ℕ) → loaded o rd a next m f ≡ Next rd v next
+Holds (loads o a m v) = (rd : Reg) (next : ℕ) (f : List ℕ) → loaded o rd a next (board m f) ≡ Next rd v next
 Holds (steps w v) = stepped w ≡ v
 Holds (runs image f budget e) = endOf (runEntry budget (start image f)) ≡ e
 
@@ -93,7 +95,7 @@ image = 0x9D ∷ 0x42 ∷ 0x37 ∷ 0x03 ∷ 0x00 ∷ 0x80 ∷ 0x23 ∷ 0x20 ∷ 
 
 -- the row that its first run leaves
 abbrev pub spent : List ℕ
-spent = runEntry 100 (start image blank) .row
+spent = runEntry 100 (start image blank) .lent .row
 
 -- a card: its number, and what it says
 abbrev pub cards : List (ℕ × List Fact)
@@ -110,7 +112,7 @@ cards =
     ∷ (
       10,
       long 0x003080E7 (given (Jalr ra ra 3))
-          ∷ steps (world (state 0x20 (0x10 ∷ replicate 30 0) 0 0) jalrAt blank) (world (state 0x12 (0x24 ∷ replicate 30 0) 1 0) jalrAt blank)
+          ∷ steps (world (state 0x20 (0x10 ∷ replicate 30 0) 0 0) (board jalrAt blank)) (world (state 0x12 (0x24 ∷ replicate 30 0) 1 0) (board jalrAt blank))
           ∷ [],
     )
     ∷ (11, runs image blank 100 (end 3 1 10 1 7) ∷ runs image blank 3 (end 3 0 10 1 7) ∷ [])

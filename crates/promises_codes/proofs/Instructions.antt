@@ -31,7 +31,7 @@ use Rattle.roundtrip.proofs.Words as Words
 use Rattle.chart.proofs.Legal as Chart
 use Rattle.chart.proofs.Count.{filled-57}
 use Rattle.promises_codes.specs.Instructions.{builds, decodes, Registers, DecodeRefuses, ExpandRefuses, EncodeRefuses, ShortenRefuses, ShortFormRefuses, BuildRefuses, OtherWidth, DecodeOfEncode, EncodeOfDecode, ExpansionEncodes, ExpandOfShorten, ShortenOfExpand, BuildOfParts, PartsOfBuild, LegalCharted, ChartFilled}
-use Rattle.answers.proofs.Order.{apart, value}
+use Rattle.answers.proofs.Order.{apart, same-value}
 use Rattle.promises_codes.proofs.Readings.{legal-is, bits-is, out-is, half-is, eight-is, nine-is, seven, eight}
 use Rattle.promises_codes.proofs.Halfwords.{exactly-listed}
 
@@ -140,7 +140,7 @@ passed : (p : Parts) (i : Inst) → builds p ≡ given i → T (registersOk p) �
 passed p i e = go (registersOk p) (sameParts (partsOf (built p)) p) e
   where
     go : (a b : Bool) → ofBuilt (cond (a && b) (Instruction (built p)) OutOfRange) ≡ given i → T a × T b × (built p ≡ i)
-    go true true e = (tt, tt, value e)
+    go true true e = (tt, tt, same-value e)
     go true false e = absurd (apart (sym e))
     go false b e = absurd (apart (sym e))
 

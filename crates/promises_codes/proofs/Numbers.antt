@@ -11,7 +11,7 @@ pub refusal-numbers : RefusalNumbers
 refusal-numbers = (λ r. (refusal-numbered r .1, refusal-numbered r .2), λ r s e. number-of-one e)
 
 pub stop-numbers : StopNumbers
-stop-numbers = (λ s. stop-numbered s .2, λ s t e. stop-of-one e)
+stop-numbers = (λ s. (stop-numbered s .1, stop-numbered s .2), λ s t e. stop-of-one e)
 
 pub replies : Replies
 replies A a place (inl g) = (

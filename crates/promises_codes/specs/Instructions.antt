@@ -123,19 +123,19 @@ ChartFilled = count filled 256 ≡ 57
 abbrev pub RefusalNumbers : Type 0
 RefusalNumbers = ((r : Refusal) → (1 ≤ numberOf r) × (numberOf r ≤ 9)) × ((r s : Refusal) → numberOf r ≡ numberOf s → r ≡ s)
 
--- every stop's number is 0 to 10, and no two have one number
+-- every stop's number is 1 to 10, and no two have one number
 abbrev pub StopNumbers : Type 0
-StopNumbers = ((s : Stop) → stopNumber s ≤ lastStop) × ((s t : Stop) → stopNumber s ≡ stopNumber t → s ≡ t)
+StopNumbers = ((s : Stop) → (1 ≤ stopNumber s) × (stopNumber s ≤ lastStop)) × ((s t : Stop) → stopNumber s ≡ stopNumber t → s ≡ t)
 
 -- an answer gives values, or it is one of the nine refusals
-abbrev pub Gives : {A : Type 0} → Answer A → Type 0
-Gives {A} a = (v : A) × (a ≡ given v)
+abbrev pub IsGiven : {A : Type 0} → Answer A → Type 0
+IsGiven {A} a = (v : A) × (a ≡ given v)
 
-abbrev pub Refuses : {A : Type 0} → Answer A → Type 0
-Refuses a = (r : Refusal) × (a ≡ refused r)
+abbrev pub IsRefused : {A : Type 0} → Answer A → Type 0
+IsRefused a = (r : Refusal) × (a ≡ refused r)
 
 -- so a C call returns 0 exactly if it gives values, which then stand in the lent place; a refused call leaves the place as it was
 abbrev pub Replies : Type 1
 Replies =
-    (A : Type 0) (a : Answer A) (place : A) → Gives a ⊎ Refuses a
-    → ((told a place .number ≡ 0) ↔ Gives a) × ((v : A) → a ≡ given v → told a place .place ≡ v) × (Refuses a → told a place .place ≡ place)
+    (A : Type 0) (a : Answer A) (place : A) → IsGiven a ⊎ IsRefused a
+    → ((told a place .answer ≡ 0) ↔ IsGiven a) × ((v : A) → a ≡ given v → told a place .lent ≡ v) × (IsRefused a → told a place .lent ≡ place)

@@ -1,11 +1,13 @@
 -- What is promised of the text of an instruction and of the listing, in the paper's numbers. Each statement is proved in proofs/Text.antt.
 use mathlib.Core.Path.{_≡_}
 use mathlib.Core.Bool.{true, false}
-use mathlib.Core.Logic.{_↔_}
 use mathlib.Core.List.{List, [], _∷_, _++_}
 use Prim.Native.Nat.{ℕ, _-_, _^_, _≤_, _<_}
 use lib.ListN.{length, drop}
 use Rattle.answers.specs.Answer.{given, refusedWith}
+use Rattle.answers.specs.Outcomes.{Outcome}
+use Rattle.answers.specs.Entries.{Refuses, Keeps, Determines}
+use Rattle.answers.specs.Order.{refusal, noRefusal}
 use Rattle.ascii.specs.Ascii.{bytes}
 use Rattle.ascii.specs.Rooms.{Wrote}
 use Rattle.isa.specs.declared.Inst.{Inst}
@@ -15,10 +17,11 @@ use Rattle.isa.specs.Registers.{reg}
 use Rattle.isa.specs.Encoding.{inRange}
 use Rattle.word.specs.Bounds.{AllBelow}
 use Rattle.text.specs.Text.{textOf, shortTextOf}
-use Rattle.disassembler.specs.Entries.{TextOutcome, wordEntry, halfEntry, instEntry, ofWritten}
-use Rattle.listing.specs.Listing.{Lines, lines, before, pageOf, listing, Page, listEntry}
+use Rattle.disassembler.specs.declared.Written.{Written}
+use Rattle.disassembler.specs.Entries.{wordEntry, halfEntry, instEntry, ofWritten}
+use Rattle.listing.specs.declared.Listed.{Listed}
+use Rattle.listing.specs.Listing.{Lines, lines, before, pageOf, listing, listEntry}
 use Rattle.promises_codes.specs.Instructions.{decodes, expands}
-use Rattle.answers.specs.Order.{refusal, noRefusal}
 
 -- ---- refusals, each exactly if its row of the table is the first that holds
 
@@ -29,33 +32,28 @@ SmallRoom room = length room < 24
 -- 7: no legal instruction in the given bits
 abbrev pub WordTextRefuses : Type 0
 WordTextRefuses =
-    (w : ℕ) (room : List ℕ) (n : ℕ)
-    → (ofWritten (wordEntry w room .answer) ≡ refusedWith n) ↔ refusal 6 (SmallRoom room) (refusal 7 (decodes w ≡ refusedWith 7) noRefusal) n
+    (w : ℕ) (room : List ℕ) → Refuses ofWritten (wordEntry w room) (refusal 6 (SmallRoom room) (refusal 7 (decodes w ≡ refusedWith 7) noRefusal))
 
 abbrev pub HalfTextRefuses : Type 0
 HalfTextRefuses =
-    (h : ℕ) (room : List ℕ) (n : ℕ)
-    → (ofWritten (halfEntry h room .answer) ≡ refusedWith n) ↔ refusal 6 (SmallRoom room) (refusal 7 (expands h ≡ refusedWith 7) noRefusal) n
+    (h : ℕ) (room : List ℕ) → Refuses ofWritten (halfEntry h room) (refusal 6 (SmallRoom room) (refusal 7 (expands h ≡ refusedWith 7) noRefusal))
 
 -- 8: a field out of range, or an odd branch or jal offset
 abbrev pub TextRefuses : Type 0
-TextRefuses =
-    (i : Inst) (room : List ℕ) (n : ℕ)
-    → (ofWritten (instEntry i room .answer) ≡ refusedWith n) ↔ refusal 6 (SmallRoom room) (refusal 8 (inRange i ≡ false) noRefusal) n
+TextRefuses = (i : Inst) (room : List ℕ) → Refuses ofWritten (instEntry i room) (refusal 6 (SmallRoom room) (refusal 8 (inRange i ≡ false) noRefusal))
 
 -- every byte of the room kept
-abbrev pub Kept : TextOutcome → List ℕ → Type 0
-Kept o room = (n : ℕ) → ofWritten (o .answer) ≡ refusedWith n → o .room ≡ room
-
 abbrev pub TextKeeps : Type 0
 TextKeeps =
     (room : List ℕ)
-    → ((w : ℕ) → Kept (wordEntry w room) room) × ((h : ℕ) → Kept (halfEntry h room) room) × ((i : Inst) → Kept (instEntry i room) room)
+    → ((w : ℕ) → Keeps ofWritten (wordEntry w room) room)
+    × ((h : ℕ) → Keeps ofWritten (halfEntry h room) room)
+    × ((i : Inst) → Keeps ofWritten (instEntry i room) room)
 
 -- ---- the text: the answer is its length; it stands at the front of the room, and bytes of the room after it stay
 
-abbrev pub Fills : TextOutcome → List ℕ → List ℕ → Type 0
-Fills o text room = (ofWritten (o .answer) ≡ given (length text)) × (o .room ≡ text ++ drop (length text) room)
+abbrev pub Fills : Outcome Written (List ℕ) → List ℕ → List ℕ → Type 0
+Fills o text room = (ofWritten (o .answer) ≡ given (length text)) × (o .lent ≡ text ++ drop (length text) room)
 
 abbrev pub WordText : Type 0
 WordText = (w : ℕ) (i : Inst) (room : List ℕ) → 24 ≤ length room → decodes w ≡ given i → Fills (wordEntry w room) (textOf i) room
@@ -114,8 +112,8 @@ abbrev pub PageFits : Type 0
 PageFits = (image : List ℕ) (room a : ℕ) → AllBelow (2 ^ 8) image → length (pageOf image room a .text) ≤ room
 
 -- bytes of the room after the page stay, and so does their number
-abbrev pub RestKept : Page → List ℕ → Type 0
-RestKept p room = (drop (p .answer .length) (p .room) ≡ drop (p .answer .length) room) × (length (p .room) ≡ length room)
+abbrev pub RestKept : Outcome Listed (List ℕ) → List ℕ → Type 0
+RestKept p room = (drop (p .answer .length) (p .lent) ≡ drop (p .answer .length) room) × (length (p .lent) ≡ length room)
 
 abbrev pub PageKeeps : Type 0
 PageKeeps = (image : List ℕ) (a : ℕ) (room : List ℕ) → AllBelow (2 ^ 8) image → RestKept (listEntry image a room) room
@@ -139,16 +137,13 @@ PaperListing =
 
 -- ---- the contracts leave no choice: any two outcomes that one allows are the same
 
-abbrev pub One : {A : Type 0} → A → Type 0
-One {A} entry = (o p : A) → o ≡ entry → p ≡ entry → o ≡ p
-
 abbrev pub TextDetermined : Type 0
 TextDetermined =
     (room : List ℕ)
-    → ((w : ℕ) → One (wordEntry w room))
-    × ((h : ℕ) → One (halfEntry h room))
-    × ((i : Inst) → One (instEntry i room))
-    × ((image : List ℕ) (a : ℕ) → One (listEntry image a room))
+    → ((w : ℕ) → Determines (wordEntry w room))
+    × ((h : ℕ) → Determines (halfEntry h room))
+    × ((i : Inst) → Determines (instEntry i room))
+    × ((image : List ℕ) (a : ℕ) → Determines (listEntry image a room))
 
 -- a writer's
 abbrev pub WroteDetermined : Type 0

@@ -8,7 +8,7 @@ use mathlib.Core.List.{List, [], _∷_, _++_, append-assoc, append-nil}
 use lib.ListN.{length, take, drop, getD, set, length-append, length-take, length-drop}
 use lib.Seq.{take-at, drop-at, take-suc, take-all, take-suc-set, drop-drop, take-add}
 use Rattle.octets.specs.Bytes.{littleEndian, ofLittleEndian, load, store}
-use Rattle.octets.proofs.Bytes.{length-le, length-store, of-le, load-one, load-among, load-add}
+use Rattle.octets.proofs.Bytes.{length-le, length-store, of-le, load-one, load-among, load-add, all-bytes, of-lt, load-lt}
 use Rattle.state.specs.declared.State.{State}
 use Rattle.word.specs.Bounds.{AllBelow}
 use Rattle.state.specs.Sizes.{Fits}
@@ -183,3 +183,25 @@ write-back m l b z =
       joined 137 7,
     )
     (take-all 144 m (omega arith))
+
+-- ---- the state that bytes say fits
+
+of-words-below : (n : ℕ) (m : List ℕ) → AllBelow (2 ^ 8) m → AllBelow (2 ^ 32) (ofWords n m)
+unfolding ofWords
+of-words-below zero m h = tt
+of-words-below (suc n) m h = (of-lt 4 m (all-bytes m h), of-words-below n (drop 4 m) (below-drop (2 ^ 8) 4 m h))
+
+length-of-words : (n : ℕ) (m : List ℕ) → length (ofWords n m) ≡ n
+unfolding ofWords
+length-of-words zero m = refl
+length-of-words (suc n) m = ap suc (length-of-words n (drop 4 m))
+
+pub bytes-fit : (m : List ℕ) → AllBelow (2 ^ 8) m → Fits (stateOf m)
+unfolding stateOf
+bytes-fit m h = record {
+  pc-fits = load-lt 4 0 m h;
+  x-length = length-of-words 31 (drop 4 m);
+  x-fits = of-words-below 31 (drop 4 m) (below-drop (2 ^ 8) 4 m h);
+  count-fits = load-lt 8 128 m h;
+  stop-fits = load-lt 1 136 m h;
+}

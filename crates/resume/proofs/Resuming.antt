@@ -1,28 +1,40 @@
--- What running slot k answers: the refusal, or the number by which the count grew. Assumes nothing.
+-- What running slot k comes to, by what its calls found: the board's refusal, then the slot's; else the run of the state that was read, written back. Assumes nothing.
 use Prim.Native.Nat.{ℕ, _-_}
-use native.Mathlib.Omega.{arith}
-use mathlib.Core.Path.{_≡_}
+use mathlib.Core.Path.{_≡_, refl, sym, _∙_}
 use mathlib.Core.List.{List}
+use Rattle.answers.specs.Outcomes.{outcome}
+use Rattle.answers.proofs.Entries.{is-refused, is-given}
 use Rattle.answers.specs.declared.Refusal.{Refusal}
+use Rattle.answers.specs.declared.Check.{Check}
 use Rattle.answers.specs.declared.Check.the-variants.{Passed, Refused}
 use Rattle.state.specs.declared.State.{State}
-use Rattle.engine.specs.Steps.{world, ran, retired}
-use Rattle.engine.proofs.Laws.{count-grew}
-use Rattle.records.specs.Records.{recordOf, stateOf}
-use Rattle.slots.specs.Slots.{slotAt, slotSet}
+use Rattle.boards.specs.Boards.{Board, boardChecked}
+use Rattle.boards.proofs.Boards.{board-refused, board-passed}
+use Rattle.engine.specs.Steps.{world, ran}
+use Rattle.engine.proofs.Laws.{count-grew-by}
+use Rattle.records.specs.Records.{recordOf}
+use Rattle.slots.specs.declared.ReadBack.{ReadBack}
+use Rattle.slots.specs.Slots.{slotSet, readChecked, readEntry}
+use Rattle.slots.proofs.Slots.{check-was, state-was}
 use Rattle.resume.specs.declared.Resumed.the-variants as A
-use Rattle.resume.specs.Resuming.{sheet, resumeChecked, resumeDecided, resumeEntry}
+use Rattle.resume.specs.Resuming.{Bench, bench, resumeChecked, resumeEntry}
 
-pub resume-refused : (budget k : ℕ) (m f slots : List ℕ) {r : Refusal} → resumeChecked k m f slots ≡ Refused r
-    → sheet (A.Refused r) m f slots ≡ resumeEntry budget k m f slots
-unfolding resumeDecided
-resume-refused budget k m f slots e = rw e
+module _ (budget k : ℕ) (h : Bench) {c : Check} (found : c ≡ boardChecked (h .board) Passed) where
+  -- the board is refused
+  pub no-board : {r : Refusal} → c ≡ Refused r → outcome (A.Refused r) h ≡ resumeEntry budget k h
+  no-board e = is-refused _ A.Refused h refl (board-refused (h .board) (readChecked k (h .slots)) (sym found ∙ e))
 
-pub resume-given : (budget k : ℕ) (m f slots : List ℕ) {s t : State} {m′ f′ slots′ : List ℕ}
-    → resumeChecked k m f slots ≡ Passed → s ≡ stateOf (slotAt k slots) → world t m′ f′ ≡ ran budget (world s m f)
-    → slots′ ≡ slotSet k (recordOf t) slots → sheet (A.Retired (t .count - s .count)) m′ f′ slots′ ≡ resumeEntry budget k m f slots
-unfolding resumeDecided
-resume-given budget k m f slots {s} {t} passed found run put =
-    let grew = count-grew budget s m f run in
-    let n : t .count - s .count ≡ retired budget (world s m f) = omega arith in
-    rw (n, put, passed, ← found, ← run)
+  module _ (lent : c ≡ Passed) {back : ReadBack} (read : outcome back tt ≡ readEntry k (h .slots)) where
+    answered : {d : Check} → back .check ≡ d → resumeChecked k h ≡ d
+    answered e = board-passed (h .board) (readChecked k (h .slots)) (sym found ∙ lent) ∙ check-was k (h .slots) read e
+
+    -- the slot is
+    pub no-state : {r : Refusal} → back .check ≡ Refused r → outcome (A.Refused r) h ≡ resumeEntry budget k h
+    no-state e = is-refused _ A.Refused h refl (answered e)
+
+    -- neither
+    pub carried-on : {t : State} {b : Board} {slots : List ℕ} → back .check ≡ Passed → world t b ≡ ran budget (world (back .state) (h .board))
+        → slots ≡ slotSet k (recordOf t) (h .slots) → outcome (A.Retired (t .count - back .state .count)) (bench b slots) ≡ resumeEntry budget k h
+    carried-on e run put =
+        is-given A.Refused h refl (answered e)
+        (rw (count-grew-by budget (world (back .state) (h .board)) run, put, ← (state-was k (h .slots) read e), ← run))

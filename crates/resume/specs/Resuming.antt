@@ -2,40 +2,39 @@
 use Prim.Native.Nat.{ℕ}
 use mathlib.Core.List.{List}
 use Rattle.answers.specs.Answer.{Answer, given, refused}
+use Rattle.answers.specs.Outcomes.{Outcome, outcome, decided}
 use Rattle.answers.specs.declared.Check.{Check}
-use Rattle.answers.specs.declared.Check.the-variants.{Passed, Refused}
+use Rattle.boards.specs.Boards.{Board, boardChecked}
 use Rattle.engine.specs.Steps.{World, world, ran, retired}
-use Rattle.boards.specs.Boards.{boardChecked}
 use Rattle.records.specs.Records.{recordOf, stateOf}
 use Rattle.slots.specs.Slots.{slotAt, slotSet, readChecked}
 use Rattle.resume.specs.declared.Resumed.{Resumed}
 use Rattle.resume.specs.declared.Resumed.the-variants as A
 
--- an answer, with memory, row and slots after the call
-pub record Sheet : Type 0 where
-  pub answer : Resumed
-  pub mem : List ℕ
-  pub row : List ℕ
+-- what is lent to a run that is carried on: the board, and the slots
+pub record Bench : Type 0 where
+  pub board : Board
   pub slots : List ℕ
 
-abbrev pub sheet : Resumed → List ℕ → List ℕ → List ℕ → Sheet
-sheet a m f slots = record { answer = a; mem = m; row = f; slots = slots }
+abbrev pub bench : Board → List ℕ → Bench
+bench b slots = record { board = b; slots = slots }
 
-abbrev pub resumeChecked : ℕ → List ℕ → List ℕ → List ℕ → Check
-resumeChecked k m f slots = boardChecked m f (readChecked k slots)
+-- the state in slot k, on the board
+abbrev pub slotWorld : ℕ → Bench → World
+slotWorld k h = world (stateOf (slotAt k (h .slots))) (h .board)
 
-abbrev pub resumeGiven : ℕ → ℕ → World → List ℕ → Sheet
-resumeGiven n k v slots = sheet (A.Retired n) (v .mem) (v .row) (slotSet k (recordOf (v .st)) slots)
+-- a world left on the bench: its state's record in slot k
+abbrev pub left : ℕ → World → List ℕ → Bench
+left k w slots = bench (w .board) (slotSet k (recordOf (w .st)) slots)
 
-abbrev pub slotWorld : ℕ → List ℕ → List ℕ → List ℕ → World
-slotWorld k m f slots = world (stateOf (slotAt k slots)) m f
+abbrev pub resumeChecked : ℕ → Bench → Check
+resumeChecked k h = boardChecked (h .board) (readChecked k (h .slots))
 
-unfoldable pub resumeDecided : Check → ℕ → ℕ → List ℕ → List ℕ → List ℕ → Sheet
-resumeDecided Passed budget k m f slots = resumeGiven (retired budget (slotWorld k m f slots)) k (ran budget (slotWorld k m f slots)) slots
-resumeDecided (Refused r) budget k m f slots = sheet (A.Refused r) m f slots
+abbrev pub resumeGiven : ℕ → ℕ → Bench → Outcome Resumed Bench
+resumeGiven budget k h = outcome (A.Retired (retired budget (slotWorld k h))) (left k (ran budget (slotWorld k h)) (h .slots))
 
-abbrev pub resumeEntry : ℕ → ℕ → List ℕ → List ℕ → List ℕ → Sheet
-resumeEntry budget k m f slots = resumeDecided (resumeChecked k m f slots) budget k m f slots
+abbrev pub resumeEntry : ℕ → ℕ → Bench → Outcome Resumed Bench
+resumeEntry budget k h = decided (resumeChecked k h) (resumeGiven budget k h) A.Refused h
 
 -- in the paper's terms
 abbrev pub ofResumed : Resumed → Answer ℕ

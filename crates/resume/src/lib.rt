@@ -6,7 +6,9 @@ use engine::run_steps;
 use slots::put;
 use slots::read_slot;
 ghost use mathlib.Core.Path.{_≡_};
-ghost use Rattle.resume.specs.Resuming.{sheet, resumeEntry};
+ghost use Rattle.answers.specs.Outcomes.{outcome};
+ghost use Rattle.boards.specs.Boards.{board};
+ghost use Rattle.resume.specs.Resuming.{bench, resumeEntry};
 
 // What `run_slot` answers: the number retired, or a refusal.
 pub enum Resumed {
@@ -16,7 +18,7 @@ pub enum Resumed {
 
 // Reads slot k, runs it for at most budget steps and writes it back. Refuses with 1 to 5.
 pub fn run_slot(mem: &mut [u8], row: &mut [u8], slots: &mut [u8], k: usize, budget: u64) -> Resumed
-    ensures { λ r. ⌜ sheet r (now (mem .exit)) (now (row .exit)) (now (slots .exit)) ≡ resumeEntry budget k (now (mem .entry)) (now (row .entry)) (now (slots .entry)) ⌝ }
+    ensures { λ r. ⌜ outcome r (bench (board (now (mem .exit)) (now (row .exit))) (now (slots .exit))) ≡ resumeEntry budget k (bench (board (now (mem .entry)) (now (row .entry))) (now (slots .entry))) ⌝ }
 {
     if let Check::Refused(r) = check_board(mem, row) {
         return Resumed::Refused(r);

@@ -1,4 +1,4 @@
--- The shortener's definition by one trial: the halfword that is tried stands for the instruction, and is then the smallest that does, or none does.
+-- The shortener's definition by the-smallest trial: the halfword that is tried stands for the instruction, and is then the smallest that does, or no-smallest does.
 -- Assumes nothing.
 use mathlib.Core.Path.{_≡_, refl, sym, ap, _∙_, subst}
 use mathlib.Core.Bool.{Bool, true, false, cond}
@@ -17,7 +17,7 @@ use Rattle.isa.specs.Rvc.{expanded}
 use Rattle.isa.specs.Shortening.{means, stands, smallest, shortened}
 use Rattle.shortest.specs.Trial.{tried}
 use Rattle.shortest.proofs.Best.{best-of}
-use Rattle.shortest.proofs.Smallest.{none, one}
+use Rattle.shortest.proofs.Smallest.{no-smallest, the-smallest}
 use Rattle.roundtrip.proofs.Same.{same}
 use Rattle.shortest.proofs.Half.{half}
 
@@ -36,14 +36,14 @@ module _ (i : Inst) where
   trial-lt : trial < 2 ^ 16
   trial-lt = half _ _ _ _ _
 
-  -- no halfword that stands for i is smaller than the one tried
+  -- no halfword that stands for i is smaller than the the-smallest tried
   not-below : (k : ℕ) → k < trial → stands i k ≡ false
   not-below k l = is-false (stands i k) (λ t. below (best-of k i (omega (arith, trial-lt)) (meant i k t) .no-larger))
     where
       below : trial ≤ k → ⊥
       below m = omega arith
 
-  -- .. and where that one does not, none does
+  -- .. and where that the-smallest does not, no-smallest does
   none-else : stands i trial ≡ false → (k : ℕ) → k < 2 ^ 16 → stands i k ≡ false
   none-else e k l = is-false (stands i k) (λ t. subst T e (best-of k i l (meant i k t) .stands-too))
 
@@ -51,8 +51,8 @@ module _ (i : Inst) where
   by-trial = go (stands i trial) refl
     where
       go : (b : Bool) → stands i trial ≡ b → smallest (stands i) (2 ^ 16) ≡ cond b (Half trial) NoShortForm
-      go true e = one (stands i) (2 ^ 16) trial trial-lt e not-below
-      go false e = none (stands i) (2 ^ 16) (none-else e)
+      go true e = the-smallest (stands i) (2 ^ 16) trial trial-lt e not-below
+      go false e = no-smallest (stands i) (2 ^ 16) (none-else e)
 
 -- what a halfword stands for is in range
 pub expanded-in-range : (h : ℕ) (i : Inst) → h < 2 ^ 16 → expanded h ≡ Legal i → inRange i ≡ true
@@ -86,7 +86,7 @@ shortened-is i h e = go (inRange i) (stands i (trial i)) refl (sym (by-one i) �
     go true false p q = let z : _≡_ {A = ℕ} 0 1 = cc in absurd (omega arith)
     go false b p q = let z : _≡_ {A = ℕ} 0 1 = cc in absurd (omega arith)
 
--- refused with no short form exactly if none stands for an instruction in range
+-- refused with no short form exactly if no-smallest stands for an instruction in range
 pub no-short-form : (i : Inst) → shortened i ≡ NoShortForm → (k : ℕ) → k < 2 ^ 16 → expanded k ≡ Legal i → ⊥
 no-short-form i e k l m =
     let q : Half (tried (partsOf i)) ≡ NoShortForm = sym (shortened-one i k l m) ∙ e in
@@ -94,4 +94,4 @@ no-short-form i e k l m =
     omega arith
 
 pub none-stands : (i : Inst) → inRange i ≡ true → ((k : ℕ) → k < 2 ^ 16 → expanded k ≡ Legal i → ⊥) → shortened i ≡ NoShortForm
-none-stands i e f = rw e (none (stands i) (2 ^ 16) (λ k l. is-false (stands i k) (λ t. f k l (meant i k t))))
+none-stands i e f = rw e (no-smallest (stands i) (2 ^ 16) (λ k l. is-false (stands i k) (λ t. f k l (meant i k t))))

@@ -1,21 +1,30 @@
--- Slots: bytes set in a slot are there, the buffer keeps its length, and the later of two settings stands. Assumes nothing.
-use Prim.Native.Nat.{ℕ, _+_, _-_, _*_, _/_, _%_, _≤_}
+-- Slots: bytes set in a slot are there, the buffer keeps its length, and the later of two settings stands; which slots are refused, and what a slot holds that reads well. Assumes nothing.
+use Prim.Native.Nat.{ℕ, _+_, _-_, _*_, _/_, _%_, _^_, _≤_}
 use native.Mathlib.Omega.{arith}
-use mathlib.Core.Path.{_≡_, refl, sym, _∙_}
-use mathlib.Core.Bool.{Bool, true, false, not}
+use mathlib.Core.Path.{_≡_, refl, sym, ap, _∙_}
+use mathlib.Core.Bool.{Bool, true, false, not, and-eq-true-iff}
+use mathlib.Core.Logic.{_↔_, _⊎_}
 use mathlib.Core.List.{List, _++_, append-assoc}
-use lib.ListN.{length, take, drop, length-append, length-take, length-drop}
-use lib.Seq.{length-take-le, take-at, drop-at}
-use lib.Dec.{eqb}
-use borrow.Author.Tests.{ltb-true, not-false}
-use Rattle.word.proofs.Bools.{and-right, is-true, holds}
-use Rattle.answers.proofs.Checks.{passed}
+use lib.ListN.{length, take, drop, length-append, length-take, length-drop, take-append-drop}
+use lib.Seq.{length-take-le, take-add, take-at, drop-at}
+use lib.Dec.{eqb, ltb}
+use borrow.Author.Tests.{eqb-true, eqb-false, ne-eqb, ltb-true, ltb-false, le-ltb, not-false}
+use Rattle.word.specs.Bounds.{AllBelow}
+use Rattle.word.proofs.Bools.{and-right, and-fails, is-true, holds}
+use Rattle.word.proofs.Bounds.{below-take, below-drop}
+use Rattle.answers.specs.Outcomes.{Outcome, outcome, decided}
+use Rattle.answers.proofs.Checks.{both-passed}
 use Rattle.answers.specs.declared.Refusal.the-variants as R
 use Rattle.answers.specs.declared.Check.{Check}
 use Rattle.answers.specs.declared.Check.the-variants.{Passed, Refused}
-use Rattle.records.specs.Records.{stateOf}
+use Rattle.octets.specs.Bytes.{load}
+use Rattle.state.specs.declared.State.{State}
+use Rattle.state.specs.Sizes.{Fits}
+use Rattle.state.specs.States.{wellFormed}
+use Rattle.records.specs.Records.{recordOf, stateOf, recordSound}
+use Rattle.records.proofs.Records.{length-record, rest-zero, read-back, write-back}
 use Rattle.slots.specs.declared.ReadBack.{ReadBack}
-use Rattle.slots.specs.Slots.{slotThere, slotAt, slotSet, readChecked, readDecided, readEntry}
+use Rattle.slots.specs.Slots.{slotThere, slotAt, slotSet, writeEntry, readChecked, readTo, noRead, readEntry}
 
 -- the part from a slot's start to its end
 pub one-record : (start : ℕ) → start + 144 - start ≡ 144
@@ -52,20 +61,73 @@ module _ (k : ℕ) (bytes slots : List ℕ) (lb : length bytes ≡ 144) (ls : 14
   drop-after =
       drop-at (take (144 * k) slots ++ bytes) (drop (144 * k + 144) slots) (144 * k + 144) (rw length-append (let b = before in omega arith))
 
--- ---- what reading slot k answers
+-- the bytes of slot k, set in slot k
+pub slot-same : (k : ℕ) (slots : List ℕ) → slotSet k (slotAt k slots) slots ≡ slots
+slot-same k slots = rw (← (take-add (144 * k) 144 slots)) (take-append-drop (144 * k + 144) slots)
 
-decided-check : (d : Check) (k : ℕ) (slots : List ℕ) → readDecided d k slots .check ≡ d
-unfolding readDecided
-decided-check Passed k slots = refl
-decided-check (Refused r) k slots = refl
+pub slot-bytes : (k : ℕ) (slots : List ℕ) → AllBelow (2 ^ 8) slots → AllBelow (2 ^ 8) (slotAt k slots)
+slot-bytes k slots b = below-take (2 ^ 8) 144 (drop (144 * k) slots) (below-drop (2 ^ 8) (144 * k) slots b)
 
-module _ (k : ℕ) (slots : List ℕ) {b : ReadBack} (e : b ≡ readEntry k slots) where
-  pub read-says : {d : Check} → b .check ≡ d → readChecked k slots ≡ d
-  read-says h = sym (decided-check (readChecked k slots) k slots) ∙ (rw e at h)
+-- ---- which slots are refused
 
-  pub read-state : b .check ≡ Passed → b .state ≡ stateOf (slotAt k slots)
-  unfolding readDecided
-  read-state h = rw (e, read-says h)
+pub no-slot : (k : ℕ) (slots : List ℕ) → (slotThere k slots ≡ false) ↔ ((length slots % 144 ≡ 0 → ⊥) ⊎ (length slots / 144 ≤ k))
+no-slot k slots = and-fails (eqb (length slots % 144) 0) (ltb k (length slots / 144)) (eqb-false _ _, ne-eqb _ _) (ltb-false _ _, le-ltb _ _)
 
-  pub read-fits : b .check ≡ Passed → 144 * k + 144 ≤ length slots
-  read-fits h = there-fits k slots (passed (slotThere k slots) R.Slot _ (read-says h) .0)
+-- a slot that reads well is there, its state well-formed, and its bytes 137 to 143 zero
+pub record Reads (k : ℕ) (slots : List ℕ) : Type 0 where
+  pub there : slotThere k slots ≡ true
+  pub formed : wellFormed (stateOf (slotAt k slots)) ≡ true
+  pub rest : load 7 137 (slotAt k slots) ≡ 0
+
+pub reads-well : (k : ℕ) (slots : List ℕ) → readChecked k slots ≡ Passed → Reads k slots
+reads-well k slots e =
+    let part : List ℕ = slotAt k slots in
+    let t = both-passed (slotThere k slots) R.Slot _ e in
+    let s = and-eq-true-iff (wellFormed (stateOf part)) (eqb (load 7 137 part) 0) .0 (both-passed (recordSound part) R.State Passed (t .1) .0) in
+    record { there = t .0; formed = s .0; rest = eqb-true _ _ (s .1) }
+
+-- its bytes are the record of its state
+pub same-record : (k : ℕ) (slots : List ℕ) → AllBelow (2 ^ 8) slots → Reads k slots → recordOf (stateOf (slotAt k slots)) ≡ slotAt k slots
+same-record k slots b r =
+    let fits = there-fits k slots (r .there) in
+    write-back (slotAt k slots) (length-take-le 144 (drop (144 * k) slots) (rw length-drop (omega arith))) (slot-bytes k slots b) (r .rest)
+
+-- ---- slot k holds the record of s
+
+pub record Holds (k : ℕ) (s : State) (slots : List ℕ) : Type 0 where
+  pub there : slotThere k slots ≡ true
+  pub held : slotAt k slots ≡ recordOf s
+
+pub holds-set : (k : ℕ) (s : State) (slots : List ℕ) → length (s .x) ≡ 31 → slotThere k slots ≡ true → Holds k s (slotSet k (recordOf s) slots)
+holds-set k s slots l t =
+    let r = length-record s l in
+    let i = there-fits k slots t in
+    record { there = rw (slot-set-length k (recordOf s) slots r i) t; held = slot-set-at k (recordOf s) slots r i }
+
+pub read-held : (k : ℕ) (s : State) (slots : List ℕ) → Holds k s slots → Fits s → wellFormed s ≡ true → readEntry k slots ≡ outcome (readTo s) tt
+unfolding decided
+read-held k s slots h f w =
+    let e : stateOf (slotAt k slots) ≡ s = ap stateOf (h .held) ∙ read-back s f in
+    rw (h .there, e, w, h .held, rest-zero s (f .x-length))
+
+pub write-passes : (k : ℕ) (s : State) (slots : List ℕ) → slotThere k slots ≡ true → wellFormed s ≡ true → writeEntry k s slots ≡ outcome Passed (slotSet k (recordOf s) slots)
+unfolding decided
+write-passes k s slots t h = rw (t, h)
+
+-- ---- what reading slot k answered
+
+decided-check : (d : Check) (o : Outcome ReadBack (Unit {0})) → o .answer .check ≡ Passed → decided d o noRead tt .answer .check ≡ d
+unfolding decided
+decided-check Passed o e = e
+decided-check (Refused r) o e = refl
+
+module _ (k : ℕ) (slots : List ℕ) {b : ReadBack} (e : outcome b tt ≡ readEntry k slots) where
+  pub check-was : {d : Check} → b .check ≡ d → readChecked k slots ≡ d
+  check-was h = sym (decided-check (readChecked k slots) _ refl) ∙ sym (ap (λ o. o .answer .check) e) ∙ h
+
+  pub state-was : b .check ≡ Passed → b .state ≡ stateOf (slotAt k slots)
+  unfolding decided
+  state-was h = ap (λ o. o .answer .state) e ∙ rw (check-was h)
+
+  pub slot-was-there : b .check ≡ Passed → 144 * k + 144 ≤ length slots
+  slot-was-there h = there-fits k slots (both-passed (slotThere k slots) R.Slot _ (check-was h) .0)

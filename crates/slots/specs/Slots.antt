@@ -6,6 +6,8 @@ use lib.ListN.{length, take, drop}
 use lib.Dec.{eqb, ltb}
 use Rattle.answers.specs.Answer.{Answer}
 use Rattle.answers.specs.Checks.{unless, ofCheck}
+use Rattle.answers.specs.Outcomes.{Outcome, outcome, decided}
+use Rattle.answers.specs.declared.Refusal.{Refusal}
 use Rattle.answers.specs.declared.Check.{Check}
 use Rattle.answers.specs.declared.Check.the-variants.{Passed, Refused}
 use Rattle.answers.specs.declared.Refusal.the-variants as R
@@ -31,35 +33,26 @@ slotSet k bytes slots = take (144 * k) slots ++ bytes ++ drop (144 * k + 144) sl
 abbrev pub writeChecked : ℕ → State → List ℕ → Check
 writeChecked k s slots = unless (slotThere k slots) R.Slot (stateChecked s)
 
-pub record WriteOutcome : Type 0 where
-  pub check : Check
-  pub slots : List ℕ
-
-abbrev pub writeOutcome : Check → List ℕ → WriteOutcome
-writeOutcome c slots = record { check = c; slots = slots }
-
-unfoldable pub writeDecided : Check → ℕ → State → List ℕ → WriteOutcome
-writeDecided Passed k s slots = writeOutcome Passed (slotSet k (recordOf s) slots)
-writeDecided (Refused r) k s slots = writeOutcome (Refused r) slots
-
-abbrev pub writeEntry : ℕ → State → List ℕ → WriteOutcome
-writeEntry k s slots = writeDecided (writeChecked k s slots) k s slots
+abbrev pub writeEntry : ℕ → State → List ℕ → Outcome Check (List ℕ)
+writeEntry k s slots = decided (writeChecked k s slots) (outcome Passed (slotSet k (recordOf s) slots)) Refused slots
 
 -- in the paper's terms: there is nothing to give
-abbrev pub ofWrite : WriteOutcome → Answer (Unit {0})
-ofWrite r = ofCheck (r .check) tt
+abbrev pub ofWrite : Check → Answer (Unit {0})
+ofWrite c = ofCheck c tt
 
--- ---- reading slot k: refusals 4 and 5
+-- ---- reading slot k: refusals 4 and 5; nothing is lent to be changed
 
 abbrev pub readChecked : ℕ → List ℕ → Check
 readChecked k slots = unless (slotThere k slots) R.Slot (unless (recordSound (slotAt k slots)) R.State Passed)
 
-unfoldable pub readDecided : Check → ℕ → List ℕ → ReadBack
-readDecided Passed k slots = record { check = Passed; state = stateOf (slotAt k slots) }
-readDecided (Refused r) k slots = record { check = Refused r; state = noState }
+abbrev pub readTo : State → ReadBack
+readTo s = record { check = Passed; state = s }
 
-abbrev pub readEntry : ℕ → List ℕ → ReadBack
-readEntry k slots = readDecided (readChecked k slots) k slots
+abbrev pub noRead : Refusal → ReadBack
+noRead r = record { check = Refused r; state = noState }
+
+abbrev pub readEntry : ℕ → List ℕ → Outcome ReadBack (Unit {0})
+readEntry k slots = decided (readChecked k slots) (outcome (readTo (stateOf (slotAt k slots))) tt) noRead tt
 
 -- in the paper's terms
 abbrev pub ofReadBack : ReadBack → Answer State

@@ -8,8 +8,9 @@ use state::State;
 ghost use mathlib.Core.Path.{_≡_};
 ghost use Prim.Native.Nat.{_+_, _*_, _≤_};
 ghost use lib.ListN.{length};
+ghost use Rattle.answers.specs.Outcomes.{outcome};
 ghost use Rattle.records.specs.Records.{recordOf};
-ghost use Rattle.slots.specs.Slots.{slotThere, slotSet, writeOutcome, writeEntry, readEntry};
+ghost use Rattle.slots.specs.Slots.{slotThere, slotSet, writeEntry, readEntry};
 
 // What `read_slot` answers: the state, or a refusal and no state.
 pub struct ReadBack {
@@ -36,7 +37,7 @@ pub fn put(slots: &mut [u8], k: usize, s: State)
 
 // A state into slot k. Refuses with 4 and 5.
 pub fn write_slot(slots: &mut [u8], k: usize, s: State) -> Check
-    ensures { λ r. ⌜ writeOutcome r (now (slots .exit)) ≡ writeEntry k s (now (slots .entry)) ⌝ }
+    ensures { λ r. ⌜ outcome r (now (slots .exit)) ≡ writeEntry k s (now (slots .entry)) ⌝ }
 {
     if !is_slot(slots, k) {
         return Check::Refused(Refusal::Slot);
@@ -50,7 +51,7 @@ pub fn write_slot(slots: &mut [u8], k: usize, s: State) -> Check
 
 // The state in slot k. Refuses with 4 and 5.
 pub fn read_slot(slots: &[u8], k: usize) -> ReadBack
-    ensures { λ r. ⌜ r ≡ readEntry k (now (slots .entry)) ⌝ }
+    ensures { λ r. ⌜ outcome r tt ≡ readEntry k (now (slots .entry)) ⌝ }
 {
     if !is_slot(slots, k) {
         return ReadBack {

@@ -1,10 +1,12 @@
--- Tests that hold together, and what a test picks. Assumes nothing.
+-- Tests that hold together, what a test picks, and a test as a number. Assumes nothing.
 use mathlib.Core.Path.{_≡_, refl}
 use mathlib.Core.Bool.{Bool, true, false, cond, _&&_}
-use mathlib.Core.Logic.{_⊎_, inl, inr}
+use mathlib.Core.Logic.{_↔_, _⊎_, inl, inr, ⊎-elim}
 use Prim.Native.Nat.{ℕ, _<_, _≤_}
 use borrow.Author.Tests.{ltb-true, ltb-false}
 use lib.Dec.{T, ltb}
+use native.Mathlib.Omega.{arith}
+use Rattle.word.specs.Bits.{flag}
 
 pub and-left : (a b : Bool) → T (a && b) → T a
 and-left true b t = tt
@@ -28,6 +30,20 @@ holds a e = rw e tt
 pub is-false : (a : Bool) → (T a → ⊥) → a ≡ false
 is-false true f = absurd (f tt)
 is-false false f = refl
+
+-- the second of two tests that both hold
+pub second : (a b : Bool) → (a && b) ≡ true → b ≡ true
+second true b e = e
+second false b e = cc
+
+-- two tests fail where the one or the other does
+pub and-fails : (a b : Bool) {P Q : Type 0} → (a ≡ false) ↔ P → (b ≡ false) ↔ Q → ((a && b) ≡ false) ↔ (P ⊎ Q)
+and-fails true b p q = (λ e. inr (q .0 e), λ s. ⊎-elim (λ h. let z = p .1 h in cc) (λ h. q .1 h) s)
+and-fails false b p q = (λ e. inl (p .0 refl), λ s. refl)
+
+pub flag-le : (t : Bool) → flag t ≤ 1
+flag-le true = omega arith
+flag-le false = omega arith
 
 -- what holds of both cases holds of the one that a test picks
 pub either : {A : Type 0} (P : A → Type 0) (b : Bool) (s t : A) → P s → P t → P (cond b s t)

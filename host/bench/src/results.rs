@@ -40,7 +40,7 @@ fn insertion_sort() {
 
 #[test]
 fn insertion_sort_has_the_figure_word_for_word() {
-    let figure = include_bytes!("../../../crates/listings/data/sort");
+    let figure = include_bytes!("../../../crates/list_files/data/sort");
     let image = WORKLOADS[0].image;
     assert!(image.windows(figure.len()).any(|part| part == figure));
 }

@@ -10,13 +10,13 @@ fn file(name: &str, which: &str) -> Vec<u8> {
 
 #[test]
 fn the_papers_listing_is_as_expected() {
-    let lines = listing(&file("list", "stdin"));
-    assert!(lines.as_bytes() == file("list", "stdout"));
+    let lines = listing(&file("list_stdin", "stdin"));
+    assert!(lines.as_bytes() == file("list_stdin", "stdout"));
 }
 
 #[test]
 fn listings_are_as_expected() {
-    let mut expected = &file("listings", "stdout")[..];
+    let mut expected = &file("list_files", "stdout")[..];
     // The order of the program's main.
     let names = [
         "odd",
@@ -30,7 +30,7 @@ fn listings_are_as_expected() {
         "too_long",
     ];
     for name in names {
-        let lines = listing(&file("listings", &format!("data/{name}")));
+        let lines = listing(&file("list_files", &format!("data/{name}")));
         let rest = expected.strip_prefix(lines.as_bytes());
         expected = rest.unwrap_or_else(|| panic!("{name} differs"));
     }

@@ -2,7 +2,7 @@
 use mathlib.Core.Path.{refl}
 use borrow.Author.Needs.{needs}
 use mir.Facts.{toZ-ofZ}
-use Rattle.alu.proofs.Signed.{signed-fits}
+use Rattle.alu.proofs.Signed.{signed-in-range}
 use Rattle.alu.proofs.is_taken.Statement.{statement}
 use Rattle.alu.proofs.is_taken.Tie as tie
 
@@ -11,7 +11,7 @@ returns-4 c =
     let e = c .before .before in
     let s = e .before .before .fits in
     rw
-    (e .enum-told4 .given .1, c .before .signed32 .ensures, c .signed322 .ensures, toZ-ofZ (signed-fits (s .a)), toZ-ofZ (signed-fits (s .b)))
+    (e .enum-told4 .given .1, c .before .signed32 .ensures, c .signed322 .ensures, toZ-ofZ (signed-in-range (s .a)), toZ-ofZ (signed-in-range (s .b)))
 
 pub is-taken-spec : {M : Type 1} → statement M
 is-taken-spec =

@@ -1,12 +1,13 @@
 -- `phuyurik_text_of_half` meets its contract: the answer and the room are those of the text's entry. Assumes nothing.
 use mathlib.Core.Path.{ap}
 use borrow.Author.Needs.{needs}
-use Rattle.c_texts.specs.Texts.{textLeft}
+use Rattle.answers.specs.Replies.{called}
+use Rattle.disassembler.specs.Entries.{ofWritten}
 use Rattle.c_texts.proofs.phuyurik_text_of_half.Statement.{statement}
 use Rattle.c_texts.proofs.phuyurik_text_of_half.Tie as tie
 
 returns : tie.Need-returns
-returns c = rw (c .answer .ensures) (ap (textLeft _) (c .before .before .before .before .text-of-half .ensures))
+returns c = rw (c .answer .ensures) (ap (called ofWritten _) (c .before .before .before .before .text-of-half .ensures))
 
 pub phuyurik-text-of-half-spec : {M : Type 1} → statement M
 phuyurik-text-of-half-spec = tie.close (tie.spec _ _ (λ c. search needs) returns)

@@ -3,6 +3,7 @@ use mathlib.Core.Path.{sym, _∙_}
 use borrow.Author.Needs.{needs}
 use borrow.Author.Tests.{not-true, not-false}
 use Rattle.state.specs.States.{stateChecked}
+use Rattle.boards.specs.Boards.{board}
 use Rattle.boards.proofs.Boards.{board-refused, board-passed}
 use Rattle.machine.proofs.check.Statement.{statement}
 use Rattle.machine.proofs.check.Tie as tie
@@ -10,17 +11,17 @@ use Rattle.machine.proofs.check.Tie as tie
 returns : tie.Need-returns
 returns c =
     let at = c .before .before .before .before .before .before .args in
-    sym (board-refused (at .mem .now) (at .row .now) (stateChecked (at .s)) (sym (c .before .before .before .check-board .ensures) ∙ c .before .r .given .1))
+    sym (board-refused (board (at .mem .now) (at .row .now)) (stateChecked (at .s)) (sym (c .before .before .before .check-board .ensures) ∙ c .before .r .given .1))
 
 returns-2 : tie.Need-returns-2
 returns-2 c =
     let at = c .before .before .before .before .before .before .before .args in
-    rw (board-passed (at .mem .now) (at .row .now) (stateChecked (at .s)) (sym (c .before .before .before .before .check-board .ensures) ∙ c .before .before .enum-told .given .1), ← c .before .is-well-formed .ensures, not-true (c .before .is-well-formed .result) (c .if1 .taken))
+    rw (board-passed (board (at .mem .now) (at .row .now)) (stateChecked (at .s)) (sym (c .before .before .before .before .check-board .ensures) ∙ c .before .before .enum-told .given .1), ← c .before .is-well-formed .ensures, not-true (c .before .is-well-formed .result) (c .if1 .taken))
 
 returns-3 : tie.Need-returns-3
 returns-3 c =
     let at = c .before .before .before .before .before .before .before .args in
-    rw (board-passed (at .mem .now) (at .row .now) (stateChecked (at .s)) (sym (c .before .before .before .before .check-board .ensures) ∙ c .before .before .enum-told .given .1), ← c .before .is-well-formed .ensures, not-false (c .before .is-well-formed .result) (c .if1 .left))
+    rw (board-passed (board (at .mem .now) (at .row .now)) (stateChecked (at .s)) (sym (c .before .before .before .before .check-board .ensures) ∙ c .before .before .enum-told .given .1), ← c .before .is-well-formed .ensures, not-false (c .before .is-well-formed .result) (c .if1 .left))
 
 pub check-spec : {M : Type 1} → statement M
 check-spec =

@@ -3,13 +3,13 @@ use mathlib.Core.Path.{refl}
 use native.Mathlib.Omega.{arith}
 use borrow.Author.Needs.{needs}
 use borrow.Author.Tests.{not-true, not-false}
-use Rattle.slots.specs.Slots.{readDecided}
+use Rattle.answers.specs.Outcomes.{decided}
 use Rattle.slots.proofs.Slots.{one-record, slot-fits}
 use Rattle.slots.proofs.read_slot.Statement.{statement}
 use Rattle.slots.proofs.read_slot.Tie as tie
 
 returns : tie.Need-returns
-unfolding readDecided
+unfolding decided
 returns c =
     let slot = c .before .before .is-slot in
     rw (← slot .ensures, not-true (slot .result) (c .before .if1 .taken), c .none .ensures) refl
@@ -30,7 +30,7 @@ part-part-end c =
     omega (arith, slot-fits (at .k) (at .slots .now) (c .before .is-slot .ensures) (c .if1 .left))
 
 returns-2 : tie.Need-returns-2
-unfolding readDecided
+unfolding decided
 returns-2 c =
     let slot = c .before .before .before .before .before .is-slot in
     let sound = c .before .before .is-sound in
@@ -43,7 +43,7 @@ returns-2 c =
     ) refl
 
 returns-3 : tie.Need-returns-3
-unfolding readDecided
+unfolding decided
 returns-3 c =
     let slot = c .before .before .before .before .before .is-slot in
     let sound = c .before .before .is-sound in

@@ -4,17 +4,17 @@ use native.Mathlib.Omega.{arith}
 use borrow.Author.Needs.{needs}
 use borrow.Author.Tests.{not-true, not-false}
 use Rattle.answers.specs.declared.Check.the-variants.{Passed}
-use Rattle.slots.specs.Slots.{writeOutcome, writeDecided}
+use Rattle.answers.specs.Outcomes.{outcome, decided}
 use Rattle.slots.proofs.Slots.{slot-fits}
 use Rattle.slots.proofs.write_slot.Statement.{statement}
 use Rattle.slots.proofs.write_slot.Tie as tie
 
 returns : tie.Need-returns
-unfolding writeDecided
+unfolding decided
 returns c = rw (← c .before .is-slot .ensures, not-true (c .before .is-slot .result) (c .if1 .taken)) refl
 
 returns-2 : tie.Need-returns-2
-unfolding writeDecided
+unfolding decided
 returns-2 c =
     let slot = c .before .before .before .is-slot in
     let formed = c .before .is-well-formed in
@@ -26,7 +26,7 @@ put-requires c κs =
     omega (arith, slot-fits (at .k) (at .slots .now) (c .before .before .before .before .is-slot .ensures) (c .before .before .before .if1 .left))
 
 returns-3 : tie.Need-returns-3
-unfolding writeDecided
+unfolding decided
 returns-3 c =
     let slot = c .before .before .before .before .before .before .before .is-slot in
     let formed = c .before .before .before .before .before .is-well-formed in
@@ -35,7 +35,7 @@ returns-3 c =
       not-false (slot .result) (c .before .before .before .before .before .before .if1 .left),
       ← formed .ensures,
       not-false (formed .result) (c .before .before .before .before .if2 .left),
-    ) (ap (writeOutcome Passed) (c .before .before .put .ensures))
+    ) (ap (outcome Passed) (c .before .before .put .ensures))
 
 pub write-slot-spec : {M : Type 1} → statement M
 write-slot-spec =

@@ -1,0 +1,52 @@
+-- The laws of an entry's shape: its tests decide, so its rows say when it is refused, a refusal leaves what was lent and says its same-number alone. Assumes nothing.
+use mathlib.Core.Path.{_≡_, refl, sym, ap, _∙_}
+use Prim.Native.Nat.{ℕ}
+use Rattle.answers.specs.Answer.{Answer, given, refusedWith, refused}
+use Rattle.answers.specs.Refusals.{numberOf}
+use Rattle.answers.specs.Outcomes.{Outcome, outcome, decided}
+use Rattle.answers.specs.Entries.{Refuses, Keeps, Silent, Determines}
+use Rattle.answers.proofs.Numbers.{number-of-one}
+use Rattle.answers.proofs.Order.{apart, same-number, Says}
+use Rattle.answers.specs.declared.Refusal.{Refusal}
+use Rattle.answers.specs.declared.Check.{Check}
+use Rattle.answers.specs.declared.Check.the-variants.{Passed, Refused}
+
+pub determined : {A B : Type 0} (o : Outcome A B) → Determines o
+determined o a b l m h k = (ap (λ p. p .answer) (h ∙ sym k), ap (λ p. p .lent) (h ∙ sym k))
+
+-- what an entry comes to where its check was found to be a refusal, or to pass
+pub is-refused : {A B : Type 0} {c d : Check} {r : Refusal} (o : Outcome A B) (refusal : Refusal → A) (before : B) → c ≡ d → c ≡ Refused r
+    → outcome (refusal r) before ≡ decided d o refusal before
+unfolding decided
+is-refused o refusal before found e = rw (← found, e)
+
+pub is-given : {A B : Type 0} {c d : Check} {p o : Outcome A B} (refusal : Refusal → A) (before : B) → c ≡ d → c ≡ Passed → p ≡ o → p ≡ decided d o refusal before
+unfolding decided
+is-given refusal before found e h = rw (← found, e) h
+
+-- `refusal` answers a refusal, which `read` reads as its same-number
+module _ {A B C : Type 0} (read : A → Answer C) (refusal : Refusal → A) (reads : (r : Refusal) → read (refusal r) ≡ refused r) where
+  pub exactly : (c : Check) (o : Outcome A B) (before : B) {v : C} {rows : ℕ → Type 0} → read (o .answer) ≡ given v → Says c rows
+      → Refuses read (decided c o refusal before) rows
+  unfolding decided
+  exactly Passed o before e q n = (λ t. absurd (apart (sym e ∙ t)), λ t. absurd (q n .1 t))
+  exactly (Refused r) o before e q n = (λ t. q n .0 (same-number (sym t ∙ reads r)), λ t. reads r ∙ ap refusedWith (sym (q n .1 t)))
+
+  pub keeps-lent : (c : Check) (o : Outcome A B) (before : B) {v : C} → read (o .answer) ≡ given v → Keeps read (decided c o refusal before) before
+  unfolding decided
+  keeps-lent Passed o before e n t = absurd (apart (sym e ∙ t))
+  keeps-lent (Refused r) o before e n t = refl
+
+  -- the refusal that it was
+  pub refused-as : (c : Check) (o : Outcome A B) (before : B) {v : C} (n : ℕ) → read (o .answer) ≡ given v → read (decided c o refusal before .answer) ≡ refusedWith n
+      → (r : Refusal) × (decided c o refusal before .answer ≡ refusal r) × (numberOf r ≡ n)
+  unfolding decided
+  refused-as Passed o before n e t = absurd (apart (sym e ∙ t))
+  refused-as (Refused r) o before n e t = (r, refl, same-number (sym (reads r) ∙ t))
+
+  pub silent : {I : Type 0} (c : I → Check) (o : I → Outcome A B) (before : I → B) (v : I → C) → ((i : I) → read (o i .answer) ≡ given (v i))
+      → Silent read (λ i. decided (c i) (o i) refusal (before i))
+  silent c o before v e i j n s t =
+      let p = refused-as (c i) (o i) (before i) n (e i) s in
+      let q = refused-as (c j) (o j) (before j) n (e j) t in
+      p .1 ∙ ap refusal (number-of-one (p .2 ∙ sym (q .2))) ∙ sym (q .1)

@@ -1,0 +1,69 @@
+-- What comes of an act, in five ways, by cases over the place of its access. The laws of a step go by these ways. Assumes nothing.
+use mathlib.Core.Path.{_≡_, refl}
+use mathlib.Core.Bool.{Bool, true, false, cond}
+use mathlib.Core.List.{List}
+use Prim.Native.Nat.{ℕ, _+_, _*_, _^_, _≤_, _<_}
+use lib.ListN.{length}
+use lib.Dec.{eqb}
+use borrow.Author.Tests.{eqb-true}
+use Rattle.answers.specs.Outcomes.{Outcome, outcome}
+use Rattle.answers.specs.declared.Stop.{Stop}
+use Rattle.answers.specs.declared.Stop.the-variants as S
+use Rattle.isa.specs.declared.Reg.{Reg}
+use Rattle.isa.specs.declared.LoadOp.{LoadOp}
+use Rattle.isa.specs.declared.StoreOp.{StoreOp}
+use Rattle.octets.specs.Bytes.{store}
+use Rattle.octets.specs.Widths.{widthBytes}
+use Rattle.octets.proofs.Bytes.{load-lt}
+use Rattle.place.specs.declared.Place.{Place}
+use Rattle.place.specs.declared.Place.the-variants.{Memory, Fuse, Misaligned, Outside}
+use Rattle.place.proofs.Placed.{placed-memory, placed-fuse}
+use Rattle.fuses.specs.Row.{markAt, burnt}
+use Rattle.boards.specs.Boards.{Board, board, BoardFits}
+use Rattle.access.specs.declared.Effect.{Effect}
+use Rattle.access.specs.declared.Effect.the-variants.{Next, Halt}
+use Rattle.access.specs.Accesses.{Done, loadWidth, loadedFrom, loadPlace, storeWidth, onTo, storedWord, storedTo, storePlace}
+use Rattle.access.proofs.Places.{extended-lt}
+use Rattle.execute.specs.declared.Act.{Act}
+use Rattle.execute.specs.declared.Act.the-variants.{Sets, Loads, Stores, Ends}
+use Rattle.execute.specs.Execution.{performed}
+
+-- on the board b an act comes to d
+pub data Comes (b : Board) : Act → Done → Type 0 where
+  sets : (rd : Reg) (v pc : ℕ) → Comes b (Sets rd v pc) (outcome (Next rd v pc) b)
+  -- what is loaded fits, for bytes are bytes
+  loads : (o : LoadOp) (rd : Reg) (a pc v : ℕ) → (BoardFits b → v < 2 ^ 32) → Comes b (Loads o rd a pc) (outcome (Next rd v pc) b)
+  into-memory : (o : StoreOp) (v a pc i : ℕ) → storePlace o a b ≡ Memory i → i + widthBytes (storeWidth o) ≤ length (b .mem)
+      → Comes b (Stores o v a pc) (outcome (onTo pc) (board (store (widthBytes (storeWidth o)) i v (b .mem)) (b .row)))
+  into-row : (o : StoreOp) (v a pc k : ℕ) → storePlace o a b ≡ Fuse k → k < 64 → markAt k (b .row) ≡ 0
+      → Comes b (Stores o v a pc) (outcome (onTo pc) (board (b .mem) (burnt k v (b .row))))
+  stops : (a : Act) (why : Stop) → Comes b a (outcome (Halt why) b)
+
+module _ (b : Board) where
+  load-comes : (p : Place) (o : LoadOp) (rd : Reg) (a pc : ℕ) → Comes b (Loads o rd a pc) (outcome (loadedFrom p o rd pc b) b)
+  unfolding loadedFrom
+  load-comes (Memory i) o rd a pc = loads o rd a pc _ (λ f. extended-lt o _ (load-lt (widthBytes (loadWidth o)) i (b .mem) (f .mem-bytes)))
+  load-comes (Fuse k) o rd a pc = loads o rd a pc _ (λ f. load-lt 4 (8 * k) (b .row) (f .row-bytes))
+  load-comes Misaligned o rd a pc = stops _ S.LoadMisaligned
+  load-comes Outside o rd a pc = stops _ S.LoadOutside
+
+  store-comes : (p : Place) (o : StoreOp) (v a pc : ℕ) → storePlace o a b ≡ p → Comes b (Stores o v a pc) (storedTo p o v pc b)
+  unfolding storedTo storedWord
+  store-comes (Memory i) o v a pc e = into-memory o v a pc i e (placed-memory _ a _ i e .1)
+  store-comes (Fuse k) o v a pc e = go (eqb (markAt k (b .row)) 0) refl
+    where
+      word : Bool → Outcome Effect (List ℕ)
+      word t = cond t (outcome (onTo pc) (burnt k v (b .row))) (outcome (Halt S.AlreadyBurnt) (b .row))
+
+      go : (t : Bool) → eqb (markAt k (b .row)) 0 ≡ t → Comes b (Stores o v a pc) (outcome (word t .answer) (board (b .mem) (word t .lent)))
+      go true z = into-row o v a pc k e (placed-fuse _ a _ k e) (eqb-true _ _ z)
+      go false z = stops _ S.AlreadyBurnt
+  store-comes Misaligned o v a pc e = stops _ S.StoreMisaligned
+  store-comes Outside o v a pc e = stops _ S.StoreOutside
+
+  pub comes : (a : Act) → Comes b a (performed a b)
+  unfolding performed
+  comes (Sets rd v pc) = sets rd v pc
+  comes (Loads o rd a pc) = load-comes (loadPlace o a b) o rd a pc
+  comes (Stores o v a pc) = store-comes (storePlace o a b) o v a pc refl
+  comes (Ends why) = stops _ why

@@ -1,0 +1,61 @@
+-- Laws of the fuse row: a burnt row is as long as before, a record's rules are told by its upper half, and the row breaks them exactly if one of its records does. Assumes nothing.
+use Prim.Native.Nat.{ℕ, zero, suc, _+_, _*_, _<_}
+use native.Mathlib.Nat.{eq-or-lt-of-le}
+use native.Mathlib.Omega.{arith}
+use mathlib.Core.Path.{_≡_, refl, _∙_}
+use mathlib.Core.Bool.{Bool, true, false, _&&_, _||_, and-false}
+use mathlib.Core.List.{List}
+use mathlib.Core.Logic.{_↔_, ⊎-elim}
+use lib.ListN.{length}
+use lib.Dec.{eqb, ltb}
+use borrow.Author.Tests.{ne-eqb, le-ltb}
+use Rattle.octets.specs.Bytes.{load, store}
+use Rattle.octets.proofs.Bytes.{load-add, length-store}
+use Rattle.fuses.specs.Row.{valueAt, markAt, restAt, keepsRules, allKeep, burnt}
+
+pub length-burnt : (k v : ℕ) (row : List ℕ) → k < 64 → length row ≡ 512 → length (burnt k v row) ≡ 512
+unfolding burnt
+length-burnt k v row h l =
+    let s : length (store 4 (8 * k) v row) ≡ 512 = length-store 4 (8 * k) v row (omega arith) ∙ l in
+    length-store 1 (8 * k + 4) 1 (store 4 (8 * k) v row) (omega arith) ∙ s
+
+-- u stands for the upper half
+rules : (value mark rest u : ℕ) → u ≡ mark + rest * 256
+    → (eqb u 1 || (eqb u 0 && eqb value 0)) ≡ (ltb mark 2 && (eqb rest 0 && (eqb mark 1 || eqb value 0)))
+rules value zero zero u e = rw e
+rules value zero (suc n) u e =
+    rw (ne-eqb (suc n) 0 (λ z. omega arith), ne-eqb u 1 (λ z. omega arith), ne-eqb u 0 (λ z. omega arith))
+rules value (suc zero) zero u e = rw e
+rules value (suc zero) (suc n) u e =
+    rw (ne-eqb (suc n) 0 (λ z. omega arith), ne-eqb u 1 (λ z. omega arith), ne-eqb u 0 (λ z. omega arith))
+rules value (suc (suc m)) rest u e =
+    rw (le-ltb (suc (suc m)) 2 (omega arith), ne-eqb u 1 (λ z. omega arith), ne-eqb u 0 (λ z. omega arith))
+
+pub upper-rules : (k : ℕ) (row : List ℕ) → k < 64 → length row ≡ 512
+    → (eqb (load 4 (8 * k + 4) row) 1 || (eqb (load 4 (8 * k + 4) row) 0 && eqb (valueAt k row) 0)) ≡ keepsRules k row
+upper-rules k row h l =
+    let a : 8 * k + 4 + 1 ≡ 8 * k + 5 = omega arith in
+    rules (valueAt k row) (markAt k row) (restAt k row) (load 4 (8 * k + 4) row) (rw a at (load-add 1 3 (8 * k + 4) row (omega arith)))
+
+-- the row breaks the rules exactly if one of its records does
+pub one-breaks : (n k : ℕ) (row : List ℕ) → k < n → keepsRules k row ≡ false → allKeep n row ≡ false
+unfolding allKeep
+one-breaks zero k row h e = absurd (let z : ⊥ = omega arith in z)
+one-breaks (suc n) k row h e =
+    ⊎-elim
+    (λ (q : k ≡ n). rw (← q, e) (and-false (allKeep k row)))
+    (λ (l : k < n). rw (one-breaks n k row l e))
+    (eq-or-lt-of-le (omega arith))
+
+some-breaks : (n : ℕ) (row : List ℕ) → allKeep n row ≡ false → (k : ℕ) × (k < n) × (keepsRules k row ≡ false)
+unfolding allKeep
+some-breaks zero row e = let z : _≡_ {A = ℕ} 0 1 = cc in absurd (omega arith)
+some-breaks (suc n) row e = go (some-breaks n row) (allKeep n row) refl e
+  where
+    go : (allKeep n row ≡ false → (k : ℕ) × (k < n) × (keepsRules k row ≡ false)) → (b : Bool) → allKeep n row ≡ b → (b && keepsRules n row) ≡ false
+        → (k : ℕ) × (k < suc n) × (keepsRules k row ≡ false)
+    go f true q e = (n, omega arith, e)
+    go f false q e = let s = f q in (s .0, omega arith, s .2)
+
+pub record-breaks : (row : List ℕ) → (allKeep 64 row ≡ false) ↔ ((k : ℕ) × (k < 64) × (keepsRules k row ≡ false))
+record-breaks row = (some-breaks 64 row, λ s. one-breaks 64 (s .0) row (s .1) (s .2))

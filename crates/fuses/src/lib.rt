@@ -1,0 +1,79 @@
+// The part in the socket: its row of 64 one-time words.
+use answers::Check;
+use answers::Refusal;
+use octets::load1;
+use octets::load4;
+use stores::store1;
+use stores::store4;
+ghost use mathlib.Core.Path.{_≡_};
+ghost use mathlib.Core.Bool.{not};
+ghost use Prim.Native.Nat.{_*_, _<_};
+ghost use lib.Dec.{eqb};
+ghost use lib.ListN.{length};
+ghost use Rattle.answers.specs.declared.Check.the-variants.{Passed};
+ghost use Rattle.fuses.specs.Row.{valueAt, markAt, keepsRules, allKeep, rowChecked, burnt};
+
+// The value of word k.
+pub fn value_of(row: &[u8], k: usize) -> u32
+    requires { ⌜ k < 64 ⌝ }
+    requires { ⌜ length (now row) ≡ 512 ⌝ }
+    ensures { λ r. ⌜ r ≡ valueAt k (now (row .entry)) ⌝ }
+{
+    load4(row, 8 * k)
+}
+
+pub fn is_burnt(row: &[u8], k: usize) -> bool
+    requires { ⌜ k < 64 ⌝ }
+    requires { ⌜ length (now row) ≡ 512 ⌝ }
+    ensures { λ r. ⌜ r ≡ not (eqb (markAt k (now (row .entry))) 0) ⌝ }
+{
+    load1(row, 8 * k + 4) != 0
+}
+
+// Word k burnt with v.
+pub fn burn(row: &mut [u8], k: usize, v: u32)
+    requires { ⌜ k < 64 ⌝ }
+    requires { ⌜ length (now row) ≡ 512 ⌝ }
+    ensures { λ _. ⌜ now (row .exit) ≡ burnt k v (now (row .entry)) ⌝ }
+{
+    store4(row, 8 * k, v);
+    store1(row, 8 * k + 4, 1);
+}
+
+// Whether the record of word k keeps the rules. Its upper half, the mark and three zero bytes, is 1 where it is burnt; a blank record is 0.
+fn keeps_rules(row: &[u8], k: usize) -> bool
+    requires { ⌜ k < 64 ⌝ }
+    requires { ⌜ length (now row) ≡ 512 ⌝ }
+    ensures { λ r. ⌜ r ≡ keepsRules k (now (row .entry)) ⌝ }
+{
+    let value = load4(row, 8 * k);
+    let upper = load4(row, 8 * k + 4);
+    (upper == 1) | ((upper == 0) & (value == 0))
+}
+
+fn all_keep(row: &[u8]) -> bool
+    requires { ⌜ length (now row) ≡ 512 ⌝ }
+    ensures { λ r. ⌜ r ≡ allKeep 64 (now (row .entry)) ⌝ }
+{
+    let mut k: usize = 0;
+    while k < 64 {
+        if !keeps_rules(row, k) {
+            return false;
+        }
+        k += 1;
+    }
+    true
+}
+
+// Whether these bytes are a fuse row: 512 of them, and every record keeps the rules.
+pub fn check_row(row: &[u8]) -> Check
+    ensures { λ r. ⌜ r ≡ rowChecked (now (row .entry)) Passed ⌝ }
+{
+    if row.len() != 512 {
+        return Check::Refused(Refusal::RowLength);
+    }
+    if !all_keep(row) {
+        return Check::Refused(Refusal::RowRecord);
+    }
+    Check::Passed
+}

@@ -1,3 +1,0 @@
-fn main() {
-    lister::list_from(libc::STDIN_FILENO);
-}

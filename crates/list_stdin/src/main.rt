@@ -1,0 +1,3 @@
+fn main() {
+    image_io::list_from(libc::STDIN_FILENO);
+}
