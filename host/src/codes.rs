@@ -26,7 +26,7 @@ pub fn chart(bits: u32) -> u8 {
     format
 }
 
-/// What 32 bits mean.
+/// What 32 bits mean. Bits of no legal instruction are refused.
 pub fn decode(bits: u32) -> Result<Instruction, Refusal> {
     let mut inst = Instruction::default();
     // SAFETY: as above; an `Instruction` is five numbers in a row.
@@ -34,7 +34,7 @@ pub fn decode(bits: u32) -> Result<Instruction, Refusal> {
     Ok(inst)
 }
 
-/// What 16 bits mean.
+/// What 16 bits mean. Bits of no legal instruction are refused.
 pub fn expand(bits: u16) -> Result<Instruction, Refusal> {
     let mut inst = Instruction::default();
     // SAFETY: as above.
@@ -42,7 +42,7 @@ pub fn expand(bits: u16) -> Result<Instruction, Refusal> {
     Ok(inst)
 }
 
-/// The word of an instruction.
+/// The word of an instruction. One with a field out of range is refused.
 pub fn encode(inst: Instruction) -> Result<u32, Refusal> {
     let mut bits = 0;
     // SAFETY: as above.
@@ -50,7 +50,8 @@ pub fn encode(inst: Instruction) -> Result<u32, Refusal> {
     Ok(bits)
 }
 
-/// The smallest halfword that stands for an instruction.
+/// The smallest halfword that stands for an instruction. One with a field out of range is refused,
+/// then one that has no short form.
 pub fn shorten(inst: Instruction) -> Result<u16, Refusal> {
     let mut bits = 0;
     // SAFETY: as above.

@@ -23,7 +23,7 @@ impl State {
     }
 }
 
-/// One step.
+/// One step. Memory, row and state may be refused.
 pub fn step(s: &mut State, mem: &mut [u8], row: &mut [u8]) -> Result<(), Refusal> {
     // SAFETY: every buffer and place is lent for the call alone, and no two of them overlap.
     checked(unsafe {
@@ -40,7 +40,7 @@ pub fn step(s: &mut State, mem: &mut [u8], row: &mut [u8]) -> Result<(), Refusal
     })
 }
 
-/// A run of at most `budget` steps; the number retired.
+/// A run of at most `budget` steps; the number retired. Memory, row and state may be refused.
 pub fn run(s: &mut State, mem: &mut [u8], row: &mut [u8], budget: u64) -> Result<u64, Refusal> {
     let mut retired = 0;
     // SAFETY: as above.
@@ -61,7 +61,7 @@ pub fn run(s: &mut State, mem: &mut [u8], row: &mut [u8], budget: u64) -> Result
     Ok(retired)
 }
 
-/// A state into slot `k`.
+/// A state into slot `k`. The slot and the state may be refused.
 pub fn write_slot(slots: &mut [u8], k: usize, s: &State) -> Result<(), Refusal> {
     // SAFETY: as above.
     checked(unsafe {
@@ -77,7 +77,7 @@ pub fn write_slot(slots: &mut [u8], k: usize, s: &State) -> Result<(), Refusal> 
     })
 }
 
-/// The state in slot `k`.
+/// The state in slot `k`. The slot and the record in it may be refused.
 pub fn read_slot(slots: &[u8], k: usize) -> Result<State, Refusal> {
     let mut s = State::fresh();
     // SAFETY: as above; the slots are only read.
@@ -96,6 +96,7 @@ pub fn read_slot(slots: &[u8], k: usize) -> Result<State, Refusal> {
 }
 
 /// Reads slot `k`, runs it for at most `budget` steps and writes it back; the number retired.
+/// Memory, row, the slot and the record in it may be refused.
 pub fn run_slot(
     mem: &mut [u8],
     row: &mut [u8],

@@ -3,7 +3,7 @@ use crate::answers::{checked, Refusal};
 use crate::codes::Instruction;
 use crate::raw;
 
-/// The text of 32 bits at the front of the room; its length.
+/// The text of 32 bits at the front of the room; its length. The room, then the bits may be refused.
 pub fn text_of_word(bits: u32, room: &mut [u8]) -> Result<usize, Refusal> {
     let mut length = 0;
     // SAFETY: the room and the place are lent for the call alone.
@@ -13,7 +13,7 @@ pub fn text_of_word(bits: u32, room: &mut [u8]) -> Result<usize, Refusal> {
     Ok(length)
 }
 
-/// The text of 16 bits at the front of the room; its length.
+/// The text of 16 bits at the front of the room; its length. The room, then the bits may be refused.
 pub fn text_of_half(bits: u16, room: &mut [u8]) -> Result<usize, Refusal> {
     let mut length = 0;
     // SAFETY: as above.
@@ -23,7 +23,8 @@ pub fn text_of_half(bits: u16, room: &mut [u8]) -> Result<usize, Refusal> {
     Ok(length)
 }
 
-/// The text of an instruction at the front of the room; its length.
+/// The text of an instruction at the front of the room; its length. The room, then the instruction
+/// may be refused.
 pub fn text_of(inst: Instruction, room: &mut [u8]) -> Result<usize, Refusal> {
     let mut length = 0;
     // SAFETY: as above.

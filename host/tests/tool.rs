@@ -94,6 +94,7 @@ fn burnt_row() -> Vec<u8> {
 #[test]
 fn help_and_version() {
     let folder = Folder::new();
+    let program = folder.call("--help").out;
     for line in [
         "--help",
         "run --help",
@@ -105,8 +106,15 @@ fn help_and_version() {
         let answer = folder.call(line);
         assert_eq!((answer.code, &*answer.err), (0, ""), "{line}");
         assert!(answer.out.starts_with("Usage: phuyurik "), "{line}");
-        assert!(answer.out.contains("Exit codes:"), "{line}");
+        let codes = answer.out.split("\nExit codes").nth(1).expect(line);
         assert!(answer.out.lines().all(|line| line.len() <= 80), "{line}");
+        // What a command can end with, the program can.
+        for code in codes
+            .lines()
+            .filter(|text| text.starts_with("  1") || text.starts_with("  3"))
+        {
+            assert!(program.contains(code), "{line}: {code}");
+        }
     }
     let version = format!("phuyurik {}\n", env!("CARGO_PKG_VERSION"));
     assert_eq!(folder.call("--version").out, version);

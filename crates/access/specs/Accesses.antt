@@ -25,7 +25,7 @@ use Rattle.boards.specs.Boards.{Board, board}
 use Rattle.access.specs.declared.Effect.{Effect}
 use Rattle.access.specs.declared.Effect.the-variants.{Next, Halt}
 
--- what an instruction comes to: its effect, and memory and row after it
+-- what an instruction comes to: its effect is the answer, with memory and row after it
 abbrev pub Done : Type 0
 Done = Outcome Effect Board
 
@@ -71,17 +71,18 @@ storeWidth Sw = Four
 abbrev pub onTo : ℕ → Effect
 onTo next = Next x0 0 next
 
--- to word k of the row f: a blank word is burnt with v
+-- to word k of the row f: a blank word is burnt with v, also with 0; at a burnt word it stops
 unfoldable pub storedWord : ℕ → ℕ → ℕ → List ℕ → Outcome Effect (List ℕ)
 storedWord k v next f = cond (eqb (markAt k f) 0) (outcome (onTo next) (burnt k v f)) (outcome (Halt AlreadyBurnt) f)
 
--- v goes to the place
+-- v goes to the place: into memory, or to a word of the row
 unfoldable pub storedTo : Place → StoreOp → ℕ → ℕ → Board → Done
 storedTo (Memory i) o v next b = outcome (onTo next) (board (store (widthBytes (storeWidth o)) i v (b .mem)) (b .row))
 storedTo (Fuse k) o v next b = outcome (storedWord k v next (b .row) .answer) (board (b .mem) (storedWord k v next (b .row) .lent))
 storedTo Misaligned o v next b = outcome (Halt StoreMisaligned) b
 storedTo Outside o v next b = outcome (Halt StoreOutside) b
 
+-- the place of the address a
 abbrev pub storePlace : StoreOp → ℕ → Board → Place
 storePlace o a b = placed (widthBytes (storeWidth o)) a (length (b .mem))
 

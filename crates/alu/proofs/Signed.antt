@@ -21,7 +21,7 @@ held h e = rw e (toZ-ofZ h)
 shifts : (w : Width) (m : ℕ) {z : ℤ} → SFits w z → SFits w (shrZ z m)
 shifts w m {z} h = record { sfits = lt-of-le-of-lt (mag-shr z m) (h .sfits) }
 
--- 64 bits that are product-below 2 ^ 32 read as themselves
+-- 64 bits that are below 2 ^ 32 read as themselves
 pub low-plain : {n : ℕ} → n < 2 ^ 32 → toZ w64 n ≡ pos n
 low-plain h = toZ-pos w64 (omega arith)
 

@@ -1,4 +1,4 @@
--- The laws of an entry's shape: its tests decide, so its rows say when it is refused, a refusal leaves what was lent and says its same-number alone. Assumes nothing.
+-- The laws of an entry's shape: its tests decide, so its rows say when it is refused, a refusal leaves what was lent and says its number alone. Assumes nothing.
 use mathlib.Core.Path.{_≡_, refl, sym, ap, _∙_}
 use Prim.Native.Nat.{ℕ}
 use Rattle.answers.specs.Answer.{Answer, given, refusedWith, refused}
@@ -24,7 +24,7 @@ pub is-given : {A B : Type 0} {c d : Check} {p o : Outcome A B} (refusal : Refus
 unfolding decided
 is-given refusal before found e h = rw (← found, e) h
 
--- `refusal` answers a refusal, which `read` reads as its same-number
+-- `refusal` answers a refusal, which `read` reads as its number
 module _ {A B C : Type 0} (read : A → Answer C) (refusal : Refusal → A) (reads : (r : Refusal) → read (refusal r) ≡ refused r) where
   pub exactly : (c : Check) (o : Outcome A B) (before : B) {v : C} {rows : ℕ → Type 0} → read (o .answer) ≡ given v → Says c rows
       → Refuses read (decided c o refusal before) rows

@@ -48,7 +48,7 @@ then-row true r rest p q n = (
 )
 then-row false r rest p q n = (λ e. inl (p .0 refl, e), λ s. ⊎-elim (λ h. h .1) (λ h. absurd (h .0 (p .0 refl))) s)
 
--- no refusal holds, so every test no-rows
+-- no refusal holds, so every test passes
 pub all-pass : (c : Check) {rows : ℕ → Type 0} → Says c rows → ((n : ℕ) → rows n → ⊥) → c ≡ Passed
 all-pass Passed q f = refl
 all-pass (Refused r) q f = absurd (f (numberOf r) (q (numberOf r) .0 refl))

@@ -8,6 +8,6 @@ abbrev pub told : {A : Type 0} → Answer A → A → Outcome ℕ A
 told (given a) before = outcome 0 a
 told (refusedWith n) before = outcome n before
 
--- an entry as a call: its answer told, and its buffers as it leaves them
-abbrev pub called : {A B C : Type 0} → (A → Answer C) → C → Outcome A B → Outcome ℕ C × B
-called read before o = (told (read (o .answer)) before, o .lent)
+-- an entry as a call: its number, the values in their place, and the buffers as it leaves them
+abbrev pub called : {A B C : Type 0} → (A → Answer C) → C → Outcome A B → Outcome ℕ (C × B)
+called read before o = outcome (told (read (o .answer)) before .answer) (told (read (o .answer)) before .lent, o .lent)

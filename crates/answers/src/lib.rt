@@ -1,4 +1,5 @@
-// The refusals and the stops of the paper, and the number that each has.
+// The refusals and the stops of the paper, and the number that each has. The shape of every entry is
+// in specs/.
 ghost use mathlib.Core.Path.{_≡_};
 ghost use Rattle.answers.specs.Refusals.{numberOf};
 ghost use Rattle.answers.specs.Stops.{stopNumber};

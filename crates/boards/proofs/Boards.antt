@@ -27,7 +27,7 @@ module _ (b : Board) (rest : Check) where
   pub board-passed : boardChecked b Passed ≡ Passed → boardChecked b rest ≡ rest
   board-passed e = passed-on (leb (length (b .mem)) longestMemory) MemoryTooLong (passed-on (eqb (length (b .row)) 512) RowLength (passed-on (allKeep 64 (b .row)) RowRecord (λ z. refl))) e
 
-  -- where all both-passed, so did the rest
+  -- where all passed, so did the rest
   pub board-accepted : boardChecked b rest ≡ Passed → Lendable b × (rest ≡ Passed)
   board-accepted e =
       let m = both-passed (leb (length (b .mem)) longestMemory) MemoryTooLong _ e in

@@ -34,7 +34,7 @@ pub extern "C" fn phuyurik_step(
     mem: &mut [u8],
     row: &mut [u8],
 ) -> u32
-    ensures { λ r. ⌜ (outcome r (state (now (pc .exit)) (now (x .exit)) (now (count .exit)) (now (stop .exit))), board (now (mem .exit)) (now (row .exit))) ≡ stepCall (world (state (now (pc .entry)) (now (x .entry)) (now (count .entry)) (now (stop .entry))) (board (now (mem .entry)) (now (row .entry)))) ⌝ }
+    ensures { λ r. ⌜ outcome r (state (now (pc .exit)) (now (x .exit)) (now (count .exit)) (now (stop .exit)), board (now (mem .exit)) (now (row .exit))) ≡ stepCall (world (state (now (pc .entry)) (now (x .entry)) (now (count .entry)) (now (stop .entry))) (board (now (mem .entry)) (now (row .entry)))) ⌝ }
 {
     let s = state_of(*pc, x, *count, *stop);
     let done = machine::step(s, mem, row);
@@ -63,7 +63,7 @@ pub extern "C" fn phuyurik_run(
     budget: u64,
     retired: &mut u64,
 ) -> u32
-    ensures { λ r. ⌜ (outcome r (state (now (pc .exit)) (now (x .exit)) (now (count .exit)) (now (stop .exit)), now (retired .exit)), board (now (mem .exit)) (now (row .exit))) ≡ runCall budget (world (state (now (pc .entry)) (now (x .entry)) (now (count .entry)) (now (stop .entry))) (board (now (mem .entry)) (now (row .entry)))) (now (retired .entry)) ⌝ }
+    ensures { λ r. ⌜ outcome r ((state (now (pc .exit)) (now (x .exit)) (now (count .exit)) (now (stop .exit)), now (retired .exit)), board (now (mem .exit)) (now (row .exit))) ≡ runCall budget (world (state (now (pc .entry)) (now (x .entry)) (now (count .entry)) (now (stop .entry))) (board (now (mem .entry)) (now (row .entry)))) (now (retired .entry)) ⌝ }
 {
     let s = state_of(*pc, x, *count, *stop);
     let done = machine::run(s, mem, row, budget);
@@ -91,7 +91,7 @@ pub extern "C" fn phuyurik_run_slot(
     budget: u64,
     retired: &mut u64,
 ) -> u32
-    ensures { λ r. ⌜ (outcome r (now (retired .exit)), bench (board (now (mem .exit)) (now (row .exit))) (now (slots .exit))) ≡ resumeCall budget k (bench (board (now (mem .entry)) (now (row .entry))) (now (slots .entry))) (now (retired .entry)) ⌝ }
+    ensures { λ r. ⌜ outcome r (now (retired .exit), bench (board (now (mem .exit)) (now (row .exit))) (now (slots .exit))) ≡ resumeCall budget k (bench (board (now (mem .entry)) (now (row .entry))) (now (slots .entry))) (now (retired .entry)) ⌝ }
 {
     match resume::run_slot(mem, row, slots, k, budget) {
         Resumed::Retired(n) => {

@@ -7,9 +7,9 @@ use Rattle.state.specs.declared.State.{State}
 use Rattle.slots.specs.Slots.{writeEntry, readEntry, ofWrite, ofReadBack}
 
 -- there is no value to give, and the slots are left
-abbrev pub writeCall : ℕ → State → List ℕ → Outcome ℕ (Unit {0}) × List ℕ
+abbrev pub writeCall : ℕ → State → List ℕ → Outcome ℕ (Unit {0} × List ℕ)
 writeCall k s slots = called ofWrite tt (writeEntry k s slots)
 
 -- the state in its place
-abbrev pub readCall : ℕ → List ℕ → State → Outcome ℕ State × Unit {0}
+abbrev pub readCall : ℕ → List ℕ → State → Outcome ℕ (State × Unit {0})
 readCall k slots before = called ofReadBack before (readEntry k slots)

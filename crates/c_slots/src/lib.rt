@@ -17,7 +17,7 @@ pub extern "C" fn phuyurik_write_slot(
     count: u64,
     stop: u8,
 ) -> u32
-    ensures { λ r. ⌜ (outcome r tt, now (slots .exit)) ≡ writeCall k (state pc (now (x .entry)) count stop) (now (slots .entry)) ⌝ }
+    ensures { λ r. ⌜ outcome r (tt, now (slots .exit)) ≡ writeCall k (state pc (now (x .entry)) count stop) (now (slots .entry)) ⌝ }
 {
     let registers = *x;
     let s = State {
@@ -42,7 +42,7 @@ pub extern "C" fn phuyurik_read_slot(
     count: &mut u64,
     stop: &mut u8,
 ) -> u32
-    ensures { λ r. ⌜ (outcome r (state (now (pc .exit)) (now (x .exit)) (now (count .exit)) (now (stop .exit))), tt) ≡ readCall k (now (slots .entry)) (state (now (pc .entry)) (now (x .entry)) (now (count .entry)) (now (stop .entry))) ⌝ }
+    ensures { λ r. ⌜ outcome r (state (now (pc .exit)) (now (x .exit)) (now (count .exit)) (now (stop .exit)), tt) ≡ readCall k (now (slots .entry)) (state (now (pc .entry)) (now (x .entry)) (now (count .entry)) (now (stop .entry))) ⌝ }
 {
     let back = slots::read_slot(slots, k);
     let check = back.check;

@@ -15,10 +15,10 @@ use Rattle.calls.specs.Calls.{ofNumbers}
 
 -- the length in its place, and the room
 
-abbrev pub wordTextCall : ℕ → List ℕ → ℕ → Outcome ℕ ℕ × List ℕ
+abbrev pub wordTextCall : ℕ → List ℕ → ℕ → Outcome ℕ (ℕ × List ℕ)
 wordTextCall bits room len = called ofWritten len (wordEntry bits room)
 
-abbrev pub halfTextCall : ℕ → List ℕ → ℕ → Outcome ℕ ℕ × List ℕ
+abbrev pub halfTextCall : ℕ → List ℕ → ℕ → Outcome ℕ (ℕ × List ℕ)
 halfTextCall bits room len = called ofWritten len (halfEntry bits room)
 
 -- 6 before 8, whatever the numbers are
@@ -26,12 +26,12 @@ abbrev pub instText : Answer Inst → List ℕ → Outcome Written (List ℕ)
 instText (given i) room = instEntry i room
 instText (refusedWith n) room = textEntry (Refused R.Field) [] room
 
-abbrev pub instTextCall : List ℕ → List ℕ → ℕ → Outcome ℕ ℕ × List ℕ
+abbrev pub instTextCall : List ℕ → List ℕ → ℕ → Outcome ℕ (ℕ × List ℕ)
 instTextCall inst room len = called ofWritten len (instText (ofNumbers inst) room)
 
 -- the listing: the length and the next address in their places, and the room; nothing is refused
 abbrev pub ofListed : Listed → Answer (ℕ × ℕ)
 ofListed p = given (p .length, p .next)
 
-abbrev pub listCall : List ℕ → ℕ → List ℕ → ℕ × ℕ → Outcome ℕ (ℕ × ℕ) × List ℕ
+abbrev pub listCall : List ℕ → ℕ → List ℕ → ℕ × ℕ → Outcome ℕ ((ℕ × ℕ) × List ℕ)
 listCall image from room places = called ofListed places (listEntry image from room)

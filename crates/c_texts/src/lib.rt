@@ -25,7 +25,7 @@ fn answer(w: Written, length: &mut usize) -> u32
 // The text of 32 bits. Refuses with 6 and 7.
 #[no_mangle]
 pub extern "C" fn phuyurik_text_of_word(bits: u32, room: &mut [u8], length: &mut usize) -> u32
-    ensures { λ r. ⌜ (outcome r (now (length .exit)), now (room .exit)) ≡ wordTextCall bits (now (room .entry)) (now (length .entry)) ⌝ }
+    ensures { λ r. ⌜ outcome r (now (length .exit), now (room .exit)) ≡ wordTextCall bits (now (room .entry)) (now (length .entry)) ⌝ }
 {
     answer(disassembler::text_of_word(bits, room), length)
 }
@@ -33,7 +33,7 @@ pub extern "C" fn phuyurik_text_of_word(bits: u32, room: &mut [u8], length: &mut
 // The text of 16 bits. Refuses with 6 and 7.
 #[no_mangle]
 pub extern "C" fn phuyurik_text_of_half(bits: u16, room: &mut [u8], length: &mut usize) -> u32
-    ensures { λ r. ⌜ (outcome r (now (length .exit)), now (room .exit)) ≡ halfTextCall bits (now (room .entry)) (now (length .entry)) ⌝ }
+    ensures { λ r. ⌜ outcome r (now (length .exit), now (room .exit)) ≡ halfTextCall bits (now (room .entry)) (now (length .entry)) ⌝ }
 {
     answer(disassembler::text_of_half(bits, room), length)
 }
@@ -41,7 +41,7 @@ pub extern "C" fn phuyurik_text_of_half(bits: u16, room: &mut [u8], length: &mut
 // The text of an instruction. Refuses with 6 and 8.
 #[no_mangle]
 pub extern "C" fn phuyurik_text_of(inst: &[u32; 5], room: &mut [u8], length: &mut usize) -> u32
-    ensures { λ r. ⌜ (outcome r (now (length .exit)), now (room .exit)) ≡ instTextCall (now (inst .entry)) (now (room .entry)) (now (length .entry)) ⌝ }
+    ensures { λ r. ⌜ outcome r (now (length .exit), now (room .exit)) ≡ instTextCall (now (inst .entry)) (now (room .entry)) (now (length .entry)) ⌝ }
 {
     if room.len() < 24 {
         return Refusal::Room.number() as u32;
@@ -61,7 +61,7 @@ pub extern "C" fn phuyurik_list(
     length: &mut usize,
     next: &mut usize,
 ) -> u32
-    ensures { λ r. ⌜ (outcome r (now (length .exit), now (next .exit)), now (room .exit)) ≡ listCall (now (image .entry)) from (now (room .entry)) (now (length .entry), now (next .entry)) ⌝ }
+    ensures { λ r. ⌜ outcome r ((now (length .exit), now (next .exit)), now (room .exit)) ≡ listCall (now (image .entry)) from (now (room .entry)) (now (length .entry), now (next .entry)) ⌝ }
 {
     let listed = listing::list(image, from, room);
     *length = listed.length;

@@ -20,7 +20,7 @@ use Rattle.isa.specs.Registers.{x0}
 use Rattle.octets.specs.Widths.{widthBytes}
 use Rattle.octets.proofs.Bytes.{all-bytes}
 use Rattle.state.specs.States.{registerOf, wellFormed, stateChecked}
-use Rattle.state.proofs.Laws.{register-lt, formed-even, Sound, Address, advanced-sound, halted-sound}
+use Rattle.state.proofs.Laws.{register-lt, formed-even, SoundState, Address, advanced-sound, halted-sound}
 use Rattle.alu.specs.Arithmetic.{sum, takes}
 use Rattle.alu.proofs.Bounds.{arith-lt, imm-lt, shift-lt, muldiv-lt}
 use Rattle.boards.proofs.Boards.{SoundBoard, board-accepted, lendable-passes, sound-store, sound-burnt}
@@ -37,7 +37,7 @@ use Rattle.engine.proofs.Walk.{by-asked, walk}
 
 -- what holds at every accepted start, and after every step from one
 abbrev pub Runnable : World → Type 0
-Runnable w = Sound (w .st) × SoundBoard (w .board)
+Runnable w = SoundState (w .st) × SoundBoard (w .board)
 
 -- it is what the entries ask, with what the types say
 pub runnable-passes : (w : World) → Runnable w → checked w ≡ Passed

@@ -17,7 +17,7 @@ use Rattle.execute.proofs.Acts.{Comes, comes}
 use Rattle.fetch.specs.declared.Fetched.{Fetched}
 use Rattle.fetch.specs.declared.Fetched.the-variants.{Instruction, Fails}
 use Rattle.fetch.specs.Fetching.{fetched}
-use Rattle.engine.specs.Steps.{World, actFetched, actAt, asked, next, after, paused, stepped, goesOn, completes}
+use Rattle.engine.specs.Steps.{World, actFetched, actAt, asked, stepDone, after, paused, stepped, goesOn, completes}
 
 -- what holds of a stop that is asked for, and of every instruction that is fetched while the count has room, holds of what is asked for
 module _ (w : World) (P : Act → Type 0) (at-stop : (why : Stop) → P (Ends why))
@@ -42,6 +42,6 @@ pub walk : (w : World) (P : Bool → World → Type 0) → (paused w ≡ false �
 unfolding stepped
 walk w P at-rest does = go (paused w) refl
   where
-    go : (b : Bool) → paused w ≡ b → P (b && goesOn (next w .answer)) (cond b (after (next w) (w .st)) w)
-    go true e = does e (next w) (comes (w .board) (asked w))
+    go : (b : Bool) → paused w ≡ b → P (b && goesOn (stepDone w .answer)) (cond b (after (stepDone w) (w .st)) w)
+    go true e = does e (stepDone w) (comes (w .board) (asked w))
     go false e = at-rest e

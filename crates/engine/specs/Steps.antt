@@ -53,8 +53,8 @@ unfoldable pub asked : World → Act
 asked w = cond (ltb (w .st .count) (2 ^ 64 - 1)) (actAt (w .st .pc) (w .st .x) (w .board .mem)) (Ends CountFull)
 
 -- what comes of it
-abbrev pub next : World → Done
-next w = performed (asked w) (w .board)
+abbrev pub stepDone : World → Done
+stepDone w = performed (asked w) (w .board)
 
 unfoldable pub applied : Effect → State → State
 applied (Next rd v pc) s = advanced pc (written rd v s)
@@ -68,7 +68,7 @@ paused w = eqb (w .st .stop) 0
 
 -- a stopped state stays stopped
 unfoldable pub stepped : World → World
-stepped w = cond (paused w) (after (next w) (w .st)) w
+stepped w = cond (paused w) (after (stepDone w) (w .st)) w
 
 -- ---- runs
 
@@ -83,7 +83,7 @@ goesOn (Halt why) = false
 
 -- whether the next step completes
 abbrev pub completes : World → Bool
-completes w = paused w && goesOn (next w .answer)
+completes w = paused w && goesOn (stepDone w .answer)
 
 -- how many of the next n steps complete
 unfoldable pub retired : ℕ → World → ℕ

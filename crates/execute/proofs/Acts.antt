@@ -28,7 +28,7 @@ use Rattle.execute.specs.declared.Act.{Act}
 use Rattle.execute.specs.declared.Act.the-variants.{Sets, Loads, Stores, Ends}
 use Rattle.execute.specs.Execution.{performed}
 
--- on the board b an act comes to d
+-- the ways in which an act can end on the board b: each act comes to one of them, and what it comes to is no more than this says
 pub data Comes (b : Board) : Act → Done → Type 0 where
   sets : (rd : Reg) (v pc : ℕ) → Comes b (Sets rd v pc) (outcome (Next rd v pc) b)
   -- what is loaded fits, for bytes are bytes

@@ -18,7 +18,7 @@ use Rattle.fetch.specs.declared.Fetched.{Fetched}
 use Rattle.fetch.specs.declared.Fetched.the-variants.{Instruction, Fails}
 use Rattle.fetch.specs.Fetching.{fetched}
 use Rattle.fetch.proofs.Laws.{fetched-real}
-use Rattle.text.proofs.Lengths.{text-fits, short-text-fits}
+use Rattle.text.proofs.Lengths.{text-fits, short-text-bound}
 use Rattle.listing.specs.declared.Shown.{Shown}
 use Rattle.listing.specs.declared.Shown.the-variants.{Long, Short, Unknown, Odd}
 use Rattle.listing.specs.Listing.{shownOf, shownAt, sizeOf, shownText, Lines, lines, lineOf, lineAt}
@@ -57,7 +57,7 @@ module _ (image : List ℕ) (a : ℕ) where
   pub shown-fits : Bytes image → 2 * sizeOf (shownAt image a) + length (shownText (shownAt image a)) ≤ 27
   shown-fits l =
       shown-is (λ s. 2 * sizeOf s + length (shownText s) ≤ 27) (omega arith) (λ h. omega arith)
-      (λ i len h e. let r = fetched-real a image l e .in-range in (λ k. omega (arith, text-fits i r), omega (arith, short-text-fits i r)))
+      (λ i len h e. let r = fetched-real a image l e .in-range in (λ k. omega (arith, text-fits i r), omega (arith, short-text-bound i r)))
 
 -- ---- lines
 

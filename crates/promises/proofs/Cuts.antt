@@ -27,14 +27,15 @@ use Rattle.engine.specs.Steps.{World, world, checked, paused, ran, retired}
 use Rattle.engine.proofs.Laws.{ran-add, retired-add}
 use Rattle.engine.proofs.Kept.{Runnable, runnable-passes, passes-runnable, runnable-ran}
 use Rattle.machine.specs.declared.Ran.{Ran}
+use Rattle.machine.proofs.Entries.{run-accepted}
 use Rattle.machine.specs.Entries.{ranTo, runGiven, noRun, runEntry, ofRan}
 use Rattle.records.specs.Records.{recordOf}
 use Rattle.records.proofs.Records.{length-record, write-back, bytes-fit}
 use Rattle.slots.specs.Slots.{slotThere, slotAt, slotSet, writeChecked, writeEntry, ofWrite, readChecked, readTo, noRead, readEntry, ofReadBack}
-use Rattle.slots.proofs.Slots.{there-fits, slot-set-at, take-before, drop-after, slot-same, slot-bytes, Reads, reads-well, same-record, Holds, holds-set, read-held, write-passes}
+use Rattle.slots.proofs.Slots.{there-fits, slot-set-at, take-before, drop-after, slot-same, slot-bytes, ReadsWell, reads-well, same-record, SlotHolds, holds-set, read-held, write-passes}
 use Rattle.resume.specs.declared.Resumed.{Resumed}
 use Rattle.resume.specs.declared.Resumed.the-variants as A
-use Rattle.resume.specs.Resuming.{Bench, bench, slotWorld, left, resumeChecked, resumeGiven, ofResumed}
+use Rattle.resume.specs.Resuming.{Bench, bench, slotWorld, benchLeft, resumeChecked, resumeGiven, ofResumed}
 use Rattle.promises.specs.Cuts.{pieceStart, piece, pieces, answers, total, manual, Cut, sumAnswered, RetiredAddsUp, SlotRunIsPiece, SlotRunAnswers, SlotsStay, RecordOfState, WritesItsSlot}
 use Rattle.promises.proofs.Refusals.{accepted-passes, slot-accepted-passes}
 use Rattle.promises.proofs.Steps.{no-budget, stays-stopped}
@@ -42,12 +43,11 @@ use Rattle.promises.proofs.Steps.{no-budget, stays-stopped}
 -- ---- one piece
 
 run-runs : (b : ℕ) {v w : World} → v ≡ w → Runnable w → runEntry b v ≡ runGiven b w
-unfolding decided
-run-runs b {v} {w} e g = ap (runEntry b) e ∙ ap (λ c. decided c (runGiven b w) noRun (w .board)) (runnable-passes w g)
+run-runs b {v} {w} e g = ap (runEntry b) e ∙ run-accepted b w (runnable-passes w g)
 
 -- a piece that ended at v
 piece-runs : (k b n : ℕ) (h : Bench) (v : World) → slotThere k (h .slots) ≡ true → Runnable v → runEntry b (pieceStart k h) ≡ outcome (ranTo (v .st) n) (v .board)
-    → piece k b h ≡ left k v (h .slots)
+    → piece k b h ≡ benchLeft k v (h .slots)
 unfolding piece
 piece-runs k b n h v t g e =
     ap (λ (o : Outcome Ran _). bench (o .lent) (writeEntry k (o .answer .state) (h .slots) .lent)) e
@@ -67,14 +67,14 @@ piece-refused k b h r e =
 -- ---- the pieces, one after the other
 
 -- pieces that end at p and answer a, where the manual ends at v and answers e
-abbrev Ends : ℕ → Bench → List (Answer (State × ℕ)) → World → List (Answer (State × ℕ)) → Type 0
-Ends k p a v e = (ofReadBack (readEntry k (p .slots) .answer) ≡ given (v .st)) × (p .board ≡ v .board) × (a ≡ e)
+abbrev EndsAlike : ℕ → Bench → List (Answer (State × ℕ)) → World → List (Answer (State × ℕ)) → Type 0
+EndsAlike k p a v e = (ofReadBack (readEntry k (p .slots) .answer) ≡ given (v .st)) × (p .board ≡ v .board) × (a ≡ e)
 
-moved : (k : ℕ) {p q : Bench} {v u : World} {a e : List (Answer (State × ℕ))} → p ≡ q → v ≡ u → Ends k q a u e → Ends k p a v e
+moved : (k : ℕ) {p q : Bench} {v u : World} {a e : List (Answer (State × ℕ))} → p ≡ q → v ≡ u → EndsAlike k q a u e → EndsAlike k p a v e
 moved k c d h = rw (c, d) h
 
-ends : (k : ℕ) (bs : List ℕ) (h : Bench) (s : State) → Holds k s (h .slots) → Runnable (world s (h .board))
-    → Ends k (pieces k bs h) (answers k bs h) (ran (total bs) (world s (h .board))) (manual bs (world s (h .board)))
+ends : (k : ℕ) (bs : List ℕ) (h : Bench) (s : State) → SlotHolds k s (h .slots) → Runnable (world s (h .board))
+    → EndsAlike k (pieces k bs h) (answers k bs h) (ran (total bs) (world s (h .board))) (manual bs (world s (h .board)))
 unfolding pieces answers total manual ran
 ends k [] h s p g = (ap (λ (o : Outcome _ _). ofReadBack (o .answer)) (read-held k s (h .slots) p (g .0 .0) (g .0 .1)), refl, refl)
 ends k (b ∷ bs) h s p g =
@@ -82,15 +82,15 @@ ends k (b ∷ bs) h s p g =
     let v : World = ran b w in
     let g′ : Runnable v = runnable-ran b w g in
     let o = run-runs b (ap (λ q. world (q .answer .state) (h .board)) (read-held k s (h .slots) p (g .0 .0) (g .0 .1))) g in
-    let e : piece k b h ≡ left k v (h .slots) = piece-runs k b (retired b w) h v (p .there) g′ o in
+    let e : piece k b h ≡ benchLeft k v (h .slots) = piece-runs k b (retired b w) h v (p .there) g′ o in
     let a : ofRan (runEntry b (pieceStart k h) .answer) ≡ given (v .st, retired b w) = ap (λ q. ofRan (q .answer)) o in
-    let i = ends k bs (left k v (h .slots)) (v .st) (holds-set k (v .st) (h .slots) (g′ .0 .0 .x-length) (p .there)) g′ in
+    let i = ends k bs (benchLeft k v (h .slots)) (v .st) (holds-set k (v .st) (h .slots) (g′ .0 .0 .x-length) (p .there)) g′ in
     moved k (ap (pieces k bs) e) (ran-add b (total bs) w) (i .0, i .1, λ j. a j ∷ (ap (answers k bs) e ∙ i .2) j)
 
 pub cut : Cut
 cut k bs w slots z a t =
     let g : Runnable w = passes-runnable w z (accepted-passes w a) in
-    rw (write-passes k (w .st) slots t (g .0 .1)) (ends k bs (left k w slots) (w .st) (holds-set k (w .st) slots (z .state-fits .x-length) t) g)
+    rw (write-passes k (w .st) slots t (g .0 .1)) (ends k bs (benchLeft k w slots) (w .st) (holds-set k (w .st) slots (z .state-fits .x-length) t) g)
 
 manual-adds-up : (bs : List ℕ) (w : World) → sumAnswered (manual bs w) ≡ retired (total bs) w
 unfolding sumAnswered manual total retired
@@ -126,7 +126,7 @@ module _ (b k : ℕ) (h : Bench) where
   unfolding decided
   read f sb l e =
       let w : World = slotWorld k h in
-      let r : Reads k (h .slots) = reads-well k (h .slots) e in
+      let r : ReadsWell k (h .slots) = reads-well k (h .slots) e in
       let a : pieceStart k h ≡ w = ap (λ c. world (decided c (outcome (readTo (w .st)) tt) noRead tt .answer .state) (h .board)) e in
       let g : Runnable w = ((bytes-fit (slotAt k (h .slots)) (slot-bytes k (h .slots) sb), r .formed), (f, board-accepted (h .board) Passed l .0)) in
       ap (λ c. resumed c .lent) (board-passed (h .board) _ l ∙ e) ∙ sym (piece-runs k b (retired b w) h (ran b w) (r .there) (runnable-ran b w g) (run-runs b a g))
@@ -154,9 +154,9 @@ unfolding decided
 slots-stay b k h sb a q =
     let c = slot-accepted-passes k h a in
     let s = rests b (slotWorld k h) q in
-    let r : Reads k (h .slots) = reads-well k (h .slots) (board-accepted (h .board) _ c .1) in
+    let r : ReadsWell k (h .slots) = reads-well k (h .slots) (board-accepted (h .board) _ c .1) in
     ap (resumed b k h) c
-    ∙ ap₂ (λ n v. outcome (A.Retired n) (left k v (h .slots))) (s .1) (s .0)
+    ∙ ap₂ (λ n v. outcome (A.Retired n) (benchLeft k v (h .slots))) (s .1) (s .0)
     ∙ ap (λ bytes. outcome (A.Retired 0) (bench (h .board) (slotSet k bytes (h .slots)))) (same-record k (h .slots) sb r)
     ∙ ap (λ slots. outcome (A.Retired 0) (bench (h .board) slots)) (slot-same k (h .slots))
 

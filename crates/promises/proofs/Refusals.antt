@@ -56,7 +56,7 @@ read-rows k slots =
 resume-rows : (k : ℕ) (h : Bench) → Says (resumeChecked k h) (resumeRows k h)
 resume-rows k h = board-rows (h .board) (readChecked k (h .slots)) (read-rows k (h .slots))
 
--- ---- where no row holds every test no-rows
+-- ---- where no row holds every test passes
 
 pub accepted-passes : (w : World) → Accepted w → checked w ≡ Passed
 accepted-passes w a = all-pass (checked w) (machine-rows w) a

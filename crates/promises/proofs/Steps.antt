@@ -8,17 +8,15 @@ use Rattle.answers.specs.Outcomes.{decided}
 use Rattle.answers.specs.Stops.{stopNumber}
 use Rattle.answers.proofs.Numbers.{stop-numbered}
 use Rattle.answers.proofs.Order.{apart}
-use Rattle.answers.specs.declared.Check.{Check}
-use Rattle.answers.specs.declared.Check.the-variants.{Passed, Refused}
 use Rattle.isa.specs.Decoding.{decoded}
 use Rattle.isa.specs.Rvc.{expanded}
 use Rattle.octets.specs.Bytes.{load}
 use Rattle.octets.proofs.Bytes.{load-add}
 use Rattle.execute.specs.Execution.{actOf, performed}
 use Rattle.fetch.proofs.Laws.{fetch-short, fetch-long}
-use Rattle.engine.specs.Steps.{actFetched, checked, ran, retired}
+use Rattle.engine.specs.Steps.{actFetched, ran, retired}
 use Rattle.engine.proofs.Laws.{step-stopped, ran-stopped, retired-stopped, counts-up, stops-with, paused-exactly}
-use Rattle.machine.specs.Entries.{stepGiven, noStep, runGiven, noRun}
+use Rattle.machine.proofs.Entries.{one-step}
 use Rattle.promises_codes.proofs.Readings.{legal-is}
 use Rattle.promises_codes.proofs.Instructions.{other-width, decode-of-encode, legal-long}
 use Rattle.promises.specs.Steps.{StepIsManual, RunIsManual, ShortActsAsLong, LengthOnly, StopsCleanly, StepIsRun, Counts, NoBudget, StaysStopped, PausedAtBudget}
@@ -33,7 +31,6 @@ unfolding decided
 run-is-manual b w a = rw (accepted-passes w a, decided) (refl, refl)
 
 pub short-acts-as-long : ShortActsAsLong
-unfolding actFetched
 short-acts-as-long i pc x b2 b4 l2 short l4 long =
     let half = load 2 pc (b2 .mem) in
     let word = load 4 pc (b4 .mem) in
@@ -46,6 +43,7 @@ short-acts-as-long i pc x b2 b4 l2 short l4 long =
     )
 
 pub length-only : LengthOnly
+unfolding actFetched
 length-only i m n pc x b e = ap (λ to. performed (actOf i to pc x) b) e
 
 pub stops-cleanly : StopsCleanly
@@ -55,15 +53,7 @@ stops-cleanly w p e =
     (stopNumber (s .0), n .1, n .2, s .1)
 
 pub step-is-run : StepIsRun
-unfolding decided ran
-step-is-run w = go (checked w)
-  where
-    go : (c : Check)
-        → (decided c (stepGiven w) noStep (w .board) .answer .check ≡ decided c (runGiven 1 w) noRun (w .board) .answer .check)
-        × (decided c (stepGiven w) noStep (w .board) .answer .state ≡ decided c (runGiven 1 w) noRun (w .board) .answer .state)
-        × (decided c (stepGiven w) noStep (w .board) .lent ≡ decided c (runGiven 1 w) noRun (w .board) .lent)
-    go Passed = (refl, refl, refl)
-    go (Refused r) = (refl, refl, refl)
+step-is-run = one-step
 
 pub counts : Counts
 counts = counts-up

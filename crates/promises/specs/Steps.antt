@@ -14,8 +14,9 @@ use Rattle.alu.specs.Arithmetic.{sum}
 use Rattle.state.specs.States.{state}
 use Rattle.boards.specs.Boards.{Board}
 use Rattle.access.specs.Accesses.{Done}
-use Rattle.execute.specs.Execution.{actOf, performed}
-use Rattle.engine.specs.Steps.{World, world, actAt, paused, stepped, completes, ran, retired}
+use Rattle.execute.specs.Execution.{performed}
+use Rattle.fetch.specs.declared.Fetched.the-variants.{Instruction}
+use Rattle.engine.specs.Steps.{World, world, actFetched, actAt, paused, stepped, completes, ran, retired}
 use Rattle.machine.specs.Entries.{stepEntry, ofStepped, runEntry, ofRan}
 use Rattle.promises_codes.specs.Instructions.{encodes, expands}
 use Rattle.promises.specs.Refusals.{machineRows}
@@ -36,7 +37,7 @@ RunIsManual =
 
 -- what the instruction i of len bytes at pc does, and what the bytes at pc do, with the registers x on the board b
 abbrev pub effectOf : Inst → ℕ → ℕ → List ℕ → Board → Done
-effectOf i len pc x b = performed (actOf i (sum pc len) pc x) b
+effectOf i len pc x b = performed (actFetched (Instruction i len) pc x) b
 
 abbrev pub effectAt : ℕ → List ℕ → Board → Done
 effectAt pc x b = performed (actAt pc x (b .mem)) b

@@ -2,12 +2,8 @@
 use mathlib.Core.Path.{_≡_, refl, ap, _∙_}
 use mathlib.Core.Bool.{false}
 use mathlib.Core.List.{List}
-use Prim.Native.Nat.{ℕ, _+_}
-use native.Mathlib.Nat.{add-zero}
-use borrow.Author.Tests.{eqb-false}
+use Prim.Native.Nat.{ℕ}
 use Rattle.answers.specs.Outcomes.{Outcome, decided}
-use Rattle.answers.specs.declared.Check.{Check}
-use Rattle.answers.specs.declared.Check.the-variants.{Passed, Refused}
 use Rattle.isa.specs.declared.Inst.the-variants.{Imm}
 use Rattle.isa.specs.declared.ImmOp.the-variants.{Addi}
 use Rattle.isa.specs.Registers.{sp}
@@ -24,20 +20,11 @@ use Rattle.boards.specs.Boards.{Board}
 use Rattle.access.specs.Accesses.{loadedFrom, storedWord, storedTo}
 use Rattle.execute.specs.Execution.{actOf, performed}
 use Rattle.fetch.specs.Fetching.{fetchedWith, fetched}
-use Rattle.engine.specs.Steps.{World, checked, actFetched, asked, applied, paused, stepped, ran, retired}
+use Rattle.engine.specs.Steps.{actFetched, asked, applied, paused, stepped, ran, retired}
 use Rattle.machine.specs.declared.Ran.{Ran}
-use Rattle.machine.specs.Entries.{runGiven, noRun, runEntry}
-use Rattle.engine.proofs.Laws.{ran-add, ran-stopped, retired-add, retired-stopped}
+use Rattle.machine.specs.Entries.{runEntry}
+use Rattle.machine.proofs.Entries.{run-ends}
 use Rattle.promises_cards.specs.Cards.{cards, Claim, endOf, start, blank, image, spent}
-
--- a run that has stopped after a steps ends so with any larger budget
-run-end : (a b : ℕ) (w : World) → paused (ran a w) ≡ false → runEntry (a + b) w ≡ runEntry a w
-unfolding decided
-run-end a b w p = go (checked w)
-  where
-    go : (c : Check) → decided c (runGiven (a + b) w) noRun (w .board) ≡ decided c (runGiven a w) noRun (w .board)
-    go Passed = let h = eqb-false _ _ p in rw (ran-add, retired-add, ran-stopped b (ran a w) h, retired-stopped b (ran a w) h, add-zero)
-    go (Refused r) = refl
 
 -- the first run stops in its fourth step and leaves word 0 burnt; the second, on that row, stops in its third
 abbrev spent-row : List ℕ
@@ -48,12 +35,12 @@ unfolding decoded expanded littleEndian ofLittleEndian load store placed burnt l
 stops = (refl, refl, refl)
 
 first-run : runEntry 100 (start image blank) ≡ runEntry 4 (start image blank)
-first-run = run-end 4 96 (start image blank) (stops .0)
+first-run = run-ends 4 96 (start image blank) (stops .0)
 
 second-run : runEntry 100 (start image spent) ≡ runEntry 3 (start image spent-row)
 second-run =
     ap (λ f. runEntry 100 (start image f)) (ap (λ (o : Outcome Ran Board). o .lent .row) first-run ∙ stops .1)
-    ∙ run-end 3 97 (start image spent-row) (stops .2)
+    ∙ run-ends 3 97 (start image spent-row) (stops .2)
 
 pub cards-hold : Claim cards
 unfolding decoded expanded inRange tryFor littleEndian ofLittleEndian load store placed burnt loadedFrom storedWord storedTo actOf performed fetchedWith fetched actFetched asked applied stepped ran retired allKeep decided

@@ -90,7 +90,7 @@ short-is-not-long = Distinct.short-is-not-long
 
 -- ---- the listing
 
--- what the pages have written, then-row the lines from where they ended, are the lines
+-- what the pages have written, then the lines from where they ended, are the lines
 pages-rest : (image rooms : List ℕ) (a : ℕ)
     → linesFrom (length image) image a ≡ pages image rooms a .text ++ linesFrom (length image) image (pages image rooms a .next)
 pages-rest image [] a = refl

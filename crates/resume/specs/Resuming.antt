@@ -24,14 +24,14 @@ abbrev pub slotWorld : ℕ → Bench → World
 slotWorld k h = world (stateOf (slotAt k (h .slots))) (h .board)
 
 -- a world left on the bench: its state's record in slot k
-abbrev pub left : ℕ → World → List ℕ → Bench
-left k w slots = bench (w .board) (slotSet k (recordOf (w .st)) slots)
+abbrev pub benchLeft : ℕ → World → List ℕ → Bench
+benchLeft k w slots = bench (w .board) (slotSet k (recordOf (w .st)) slots)
 
 abbrev pub resumeChecked : ℕ → Bench → Check
 resumeChecked k h = boardChecked (h .board) (readChecked k (h .slots))
 
 abbrev pub resumeGiven : ℕ → ℕ → Bench → Outcome Resumed Bench
-resumeGiven budget k h = outcome (A.Retired (retired budget (slotWorld k h))) (left k (ran budget (slotWorld k h)) (h .slots))
+resumeGiven budget k h = outcome (A.Retired (retired budget (slotWorld k h))) (benchLeft k (ran budget (slotWorld k h)) (h .slots))
 
 abbrev pub resumeEntry : ℕ → ℕ → Bench → Outcome Resumed Bench
 resumeEntry budget k h = decided (resumeChecked k h) (resumeGiven budget k h) A.Refused h

@@ -1,4 +1,4 @@
--- The shortener's definition by the-smallest trial: the halfword that is tried stands for the instruction, and is then the smallest that does, or no-smallest does.
+-- The shortener's definition by one trial: the halfword that is tried stands for the instruction, and is then the smallest that does, or none does.
 -- Assumes nothing.
 use mathlib.Core.Path.{_≡_, refl, sym, ap, _∙_, subst}
 use mathlib.Core.Bool.{Bool, true, false, cond}
@@ -36,14 +36,14 @@ module _ (i : Inst) where
   trial-lt : trial < 2 ^ 16
   trial-lt = half _ _ _ _ _
 
-  -- no halfword that stands for i is smaller than the the-smallest tried
+  -- no halfword that stands for i is smaller than the one tried
   not-below : (k : ℕ) → k < trial → stands i k ≡ false
   not-below k l = is-false (stands i k) (λ t. below (best-of k i (omega (arith, trial-lt)) (meant i k t) .no-larger))
     where
       below : trial ≤ k → ⊥
       below m = omega arith
 
-  -- .. and where that the-smallest does not, no-smallest does
+  -- .. and where that one does not, none does
   none-else : stands i trial ≡ false → (k : ℕ) → k < 2 ^ 16 → stands i k ≡ false
   none-else e k l = is-false (stands i k) (λ t. subst T e (best-of k i l (meant i k t) .stands-too))
 
@@ -86,7 +86,7 @@ shortened-is i h e = go (inRange i) (stands i (trial i)) refl (sym (by-one i) �
     go true false p q = let z : _≡_ {A = ℕ} 0 1 = cc in absurd (omega arith)
     go false b p q = let z : _≡_ {A = ℕ} 0 1 = cc in absurd (omega arith)
 
--- refused with no short form exactly if no-smallest stands for an instruction in range
+-- refused with no short form exactly if none stands for an instruction in range
 pub no-short-form : (i : Inst) → shortened i ≡ NoShortForm → (k : ℕ) → k < 2 ^ 16 → expanded k ≡ Legal i → ⊥
 no-short-form i e k l m =
     let q : Half (tried (partsOf i)) ≡ NoShortForm = sym (shortened-one i k l m) ∙ e in

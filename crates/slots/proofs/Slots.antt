@@ -74,12 +74,12 @@ pub no-slot : (k : ℕ) (slots : List ℕ) → (slotThere k slots ≡ false) ↔
 no-slot k slots = and-fails (eqb (length slots % 144) 0) (ltb k (length slots / 144)) (eqb-false _ _, ne-eqb _ _) (ltb-false _ _, le-ltb _ _)
 
 -- a slot that reads well is there, its state well-formed, and its bytes 137 to 143 zero
-pub record Reads (k : ℕ) (slots : List ℕ) : Type 0 where
+pub record ReadsWell (k : ℕ) (slots : List ℕ) : Type 0 where
   pub there : slotThere k slots ≡ true
   pub formed : wellFormed (stateOf (slotAt k slots)) ≡ true
   pub rest : load 7 137 (slotAt k slots) ≡ 0
 
-pub reads-well : (k : ℕ) (slots : List ℕ) → readChecked k slots ≡ Passed → Reads k slots
+pub reads-well : (k : ℕ) (slots : List ℕ) → readChecked k slots ≡ Passed → ReadsWell k slots
 reads-well k slots e =
     let part : List ℕ = slotAt k slots in
     let t = both-passed (slotThere k slots) R.Slot _ e in
@@ -87,28 +87,28 @@ reads-well k slots e =
     record { there = t .0; formed = s .0; rest = eqb-true _ _ (s .1) }
 
 -- its bytes are the record of its state
-pub same-record : (k : ℕ) (slots : List ℕ) → AllBelow (2 ^ 8) slots → Reads k slots → recordOf (stateOf (slotAt k slots)) ≡ slotAt k slots
+pub same-record : (k : ℕ) (slots : List ℕ) → AllBelow (2 ^ 8) slots → ReadsWell k slots → recordOf (stateOf (slotAt k slots)) ≡ slotAt k slots
 same-record k slots b r =
     let fits = there-fits k slots (r .there) in
     write-back (slotAt k slots) (length-take-le 144 (drop (144 * k) slots) (rw length-drop (omega arith))) (slot-bytes k slots b) (r .rest)
 
 -- ---- slot k holds the record of s
 
-pub record Holds (k : ℕ) (s : State) (slots : List ℕ) : Type 0 where
+pub record SlotHolds (k : ℕ) (s : State) (slots : List ℕ) : Type 0 where
   pub there : slotThere k slots ≡ true
-  pub held : slotAt k slots ≡ recordOf s
+  pub record-held : slotAt k slots ≡ recordOf s
 
-pub holds-set : (k : ℕ) (s : State) (slots : List ℕ) → length (s .x) ≡ 31 → slotThere k slots ≡ true → Holds k s (slotSet k (recordOf s) slots)
+pub holds-set : (k : ℕ) (s : State) (slots : List ℕ) → length (s .x) ≡ 31 → slotThere k slots ≡ true → SlotHolds k s (slotSet k (recordOf s) slots)
 holds-set k s slots l t =
     let r = length-record s l in
     let i = there-fits k slots t in
-    record { there = rw (slot-set-length k (recordOf s) slots r i) t; held = slot-set-at k (recordOf s) slots r i }
+    record { there = rw (slot-set-length k (recordOf s) slots r i) t; record-held = slot-set-at k (recordOf s) slots r i }
 
-pub read-held : (k : ℕ) (s : State) (slots : List ℕ) → Holds k s slots → Fits s → wellFormed s ≡ true → readEntry k slots ≡ outcome (readTo s) tt
+pub read-held : (k : ℕ) (s : State) (slots : List ℕ) → SlotHolds k s slots → Fits s → wellFormed s ≡ true → readEntry k slots ≡ outcome (readTo s) tt
 unfolding decided
 read-held k s slots h f w =
-    let e : stateOf (slotAt k slots) ≡ s = ap stateOf (h .held) ∙ read-back s f in
-    rw (h .there, e, w, h .held, rest-zero s (f .x-length))
+    let e : stateOf (slotAt k slots) ≡ s = ap stateOf (h .record-held) ∙ read-back s f in
+    rw (h .there, e, w, h .record-held, rest-zero s (f .x-length))
 
 pub write-passes : (k : ℕ) (s : State) (slots : List ℕ) → slotThere k slots ≡ true → wellFormed s ≡ true → writeEntry k s slots ≡ outcome Passed (slotSet k (recordOf s) slots)
 unfolding decided

@@ -50,14 +50,14 @@ is-formed s e l = rw (eq-eqb (s .pc % 2) 0 e, le-leb (s .stop) lastStop l)
 -- ---- what a step makes of a state
 
 -- its numbers fit, and it is well-formed
-abbrev pub Sound : State → Type 0
-Sound s = Fits s × (wellFormed s ≡ true)
+abbrev pub SoundState : State → Type 0
+SoundState s = Fits s × (wellFormed s ≡ true)
 
 -- where an instruction can be
 abbrev pub Address : ℕ → Type 0
 Address pc = (pc < 2 ^ 32) × (pc % 2 ≡ 0)
 
-pub advanced-sound : (rd : Reg) (v pc : ℕ) (s : State) → v < 2 ^ 32 → Address pc → s .count < 2 ^ 64 - 1 → Sound s → Sound (advanced pc (written rd v s))
+pub advanced-sound : (rd : Reg) (v pc : ℕ) (s : State) → v < 2 ^ 32 → Address pc → s .count < 2 ^ 64 - 1 → SoundState s → SoundState (advanced pc (written rd v s))
 advanced-sound rd v pc s h a room g = (
   record {
     pc-fits = a .0;
@@ -69,7 +69,7 @@ advanced-sound rd v pc s h a room g = (
   is-formed (advanced pc (written rd v s)) (a .1) (formed-stop s (g .1)),
 )
 
-pub halted-sound : (why : Stop) (s : State) → Sound s → Sound (halted why s)
+pub halted-sound : (why : Stop) (s : State) → SoundState s → SoundState (halted why s)
 halted-sound why s g =
     let l = stop-numbered why .2 in (
       record {

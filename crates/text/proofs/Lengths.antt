@@ -166,6 +166,6 @@ pub text-fits : (i : Inst) → inRange i ≡ true → length (textOf i) ≤ 19
 text-fits i e = fits i (holds (inRange i) e)
 
 -- with c: in front
-pub short-text-fits : (i : Inst) → inRange i ≡ true → length (shortTextOf i) ≤ 21
+pub short-text-bound : (i : Inst) → inRange i ≡ true → length (shortTextOf i) ≤ 21
 unfolding shortTextOf
-short-text-fits i e = omega (arith, text-fits i e)
+short-text-bound i e = omega (arith, text-fits i e)

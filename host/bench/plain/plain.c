@@ -157,7 +157,7 @@ static uint32_t expand_1(uint32_t h)
     }
 }
 
-/* C.JR, C.MV, C.PHUYURIK_EBREAK, C.JALR, C.ADD */
+/* C.JR, C.MV, C.EBREAK, C.JALR, C.ADD */
 static uint32_t short_register(uint32_t h)
 {
     uint32_t rd = bits(h, 11, 7), rs2 = bits(h, 6, 2), link = bits(h, 12, 12);

@@ -45,7 +45,7 @@ pub fn parse(words: Vec<OsString>) -> Result<Command, Error> {
         return wrong("no command");
     };
     if is(&command, &["--help", "-h", "help"]) {
-        return Ok(Command::Help(help::PROGRAM.text()));
+        return Ok(Command::Help(help::program()));
     }
     if is(&command, &["--version", "-V"]) {
         return Ok(Command::Version);

@@ -22,28 +22,49 @@ pub struct Help {
 
 impl Help {
     pub fn text(&self) -> String {
-        format!("{}\nExit codes:\n{}", self.about, self.codes())
+        format!("{}\n{}", self.about, codes(&[self]))
     }
+}
 
-    fn codes(&self) -> String {
-        let mut text = match self.runs {
-            true => line(0, "done: ecall, or paused because the budget is used up"),
-            false => line(0, "done"),
-        };
-        if self.compares {
-            text += &line(1, "demo: a fact was not as the paper has it");
+/// The help of the program itself, with the exit codes of all its commands.
+pub fn program() -> String {
+    format!("{PROGRAM}\n{}", codes(&COMMANDS.iter().collect::<Vec<_>>()))
+}
+
+/// The exit codes that these commands have among them.
+fn codes(commands: &[&Help]) -> String {
+    let runs = commands.iter().any(|command| command.runs);
+    let lends: Vec<Argument> = commands
+        .iter()
+        .flat_map(|command| command.lends)
+        .copied()
+        .collect();
+    let mut text = match runs {
+        true => line(0, "done: ecall, or paused because the budget is used up"),
+        false => line(0, "done"),
+    };
+    if commands.iter().any(|command| command.compares) {
+        text += &line(1, "demo: a fact was not as the paper has it");
+    }
+    text += &line(2, "wrong usage");
+    text += &line(3, FILES);
+    if runs {
+        for stop in Stop::ALL.iter().filter(|stop| stop_code(**stop) > 0) {
+            text += &line(stop_code(*stop), &stop_text(*stop));
         }
-        text += &line(2, "wrong usage");
-        text += &line(3, FILES);
-        if self.runs {
-            for stop in Stop::ALL.iter().filter(|stop| stop_code(**stop) > 0) {
-                text += &line(stop_code(*stop), &stop_text(*stop));
-            }
-        }
-        for refusal in Refusal::of(self.lends) {
-            text += &line(refusal_code(refusal), &refusal.to_string());
-        }
-        text
+    }
+    for refusal in Refusal::of(&lends) {
+        text += &line(refusal_code(refusal), &refusal.to_string());
+    }
+    format!("Exit codes{}:\n{text}", rule(runs, !lends.is_empty()))
+}
+
+/// How a stop or a refusal becomes an exit code, where there can be one.
+fn rule(stops: bool, refusals: bool) -> &'static str {
+    match (stops, refusals) {
+        (true, _) => " (10 + the stop number, 30 + the refusal number)",
+        (false, true) => " (30 + the refusal number)",
+        (false, false) => "",
     }
 }
 
@@ -62,9 +83,7 @@ fn line(code: u8, meaning: &str) -> String {
     text + "\n"
 }
 
-pub const PROGRAM: Help = Help {
-    command: "",
-    about: "\
+const PROGRAM: &str = "\
 Usage: phuyurik COMMAND ...
 
 Runs trim recipes (RV32IMC programs) on a part's row of 64 one-time words.
@@ -82,11 +101,7 @@ Commands:
 
 Example:
   phuyurik run trim.bin --row part.row --slots line.slots --slot 0 --budget 1000
-",
-    runs: true,
-    compares: true,
-    lends: &[Memory, Row, Slots, State],
-};
+";
 
 const RUN: Help = Help {
     command: "run",
@@ -183,8 +198,9 @@ const DEMO: Help = Help {
 Usage: phuyurik demo
 
 Lists the paper's recipe, runs it on a blank row, shows the row, and starts it
-anew on that row: it stops, and no word is burnt twice. Works in a new folder
-under the system's temporary folder, and removes it.
+anew on that row: it stops, for its word is burnt already, and no word is burnt
+twice. Works in a new folder under the system's temporary folder, and removes
+it.
 
 Example:
   phuyurik demo

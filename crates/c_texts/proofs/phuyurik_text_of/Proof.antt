@@ -14,6 +14,7 @@ use Rattle.disassembler.proofs.Outcomes.{no-room, text-refused}
 use Rattle.answers.specs.Replies.{called}
 use Rattle.disassembler.specs.Entries.{ofWritten}
 use Rattle.c_texts.specs.Texts.{instText}
+use Rattle.c_texts.proofs.Calls.{text-called}
 use Rattle.c_texts.proofs.phuyurik_text_of.Statement.{statement}
 use Rattle.c_texts.proofs.phuyurik_text_of.Tie as tie
 
@@ -31,7 +32,7 @@ returns-2 c = rw (← c .before .before .before .inst-in .ensures, c .before .en
 returns-3 : tie.Need-returns-3
 returns-3 c =
     let text = c .before .before .before .before in
-    rw (← text .before .before .before .before .before .inst-in .ensures, text .before .before .before .i .given .1, c .answer .ensures) (ap (called ofWritten _) (text .text-of .ensures))
+    rw (← text .before .before .before .before .before .inst-in .ensures, text .before .before .before .i .given .1) (text-called _ _ (c .answer .ensures) (text .text-of .ensures))
 
 pub phuyurik-text-of-spec : {M : Type 1} → statement M
 phuyurik-text-of-spec = tie.close (tie.spec _ (λ c. search needs) returns _ (λ c. search needs) (λ c. search needs) _ (λ c. search needs) returns-2 _ _ (λ c. search needs) returns-3)

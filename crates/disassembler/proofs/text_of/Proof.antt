@@ -1,4 +1,4 @@
--- `text_of` meets its contract: the room's test, then the instruction's, decide as the contract's do; the text is text-written from 0 on. Assumes nothing.
+-- `text_of` meets its contract: the room's test, then the instruction's, decide as the contract's do; the text is written from 0 on. Assumes nothing.
 use native.Mathlib.Omega.{arith}
 use mathlib.Core.Path.{sym, _∙_}
 use borrow.Author.Needs.{needs}

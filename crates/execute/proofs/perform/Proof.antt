@@ -14,7 +14,9 @@ returns-2 c = rw (c .before .before .before .before .act2 .given .1, c .load .en
 
 returns-3 : tie.Need-returns-3
 unfolding performed
-returns-3 c = rw (c .before .before .before .before .before .before .before .before .act3 .given .1, c .before .before .before .before .store .ensures)
+returns-3 c =
+    let stored = c .before .before .before .before in
+    rw (stored .before .before .before .before .act3 .given .1, stored .store .ensures)
 
 returns-4 : tie.Need-returns-4
 unfolding performed

@@ -24,7 +24,8 @@ run-steps-requires c κs =
 sub-t19 : tie.Need-sub-t19
 sub-t19 c =
     let run = c .before .before .before .before .before .before in
-    let at = run .before .before .before .before .before .before .before .before .before .before .args in
+    let tested = run .before .before .before .before .before in
+    let at = tested .before .before .before .before .before .args in
     omega (arith, count-grew _ (world (at .s) (board (at .mem .now) (at .row .now))) (run .run-steps .ensures))
 
 returns-2 : tie.Need-returns-2

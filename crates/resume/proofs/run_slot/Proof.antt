@@ -39,14 +39,16 @@ put-requires : tie.Need-put-requires
 put-requires c κs =
     let sound = c .before .before .before .before .before .before .before .before .before in
     let read = sound .before .before in
-    let at = read .before .before .before .before .before .before .before .before .before .before .args in
+    let lent = read .before .before .before .before in
+    let at = lent .before .before .before .before .before .before .args in
     omega (arith, slot-was-there (at .k) (at .slots .now) (read .read-slot .ensures) (sound .enum-told2 .given .1))
 
 sub-t26 : tie.Need-sub-t26
 sub-t26 c =
     let run = c .before .before .before .before .before .before .before .before .before .before in
     let read = run .before .before .before .before .before .before in
-    let at = read .before .before .before .before .before .before .before .before .before .before .args in
+    let lent = read .before .before .before .before in
+    let at = lent .before .before .before .before .before .before .args in
     omega (arith, count-grew (at .budget) (world (read .read-slot .result .state) (board (at .mem .now) (at .row .now))) (run .run-steps .ensures))
 
 returns-3 : tie.Need-returns-3
