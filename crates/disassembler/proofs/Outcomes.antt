@@ -16,6 +16,7 @@ use Rattle.answers.specs.declared.Refusal.{Refusal}
 use Rattle.answers.specs.declared.Refusal.the-variants as R
 use Rattle.answers.specs.declared.Check.{Check}
 use Rattle.answers.specs.declared.Check.the-variants.{Passed, Refused}
+use Rattle.answers.proofs.Entries.{is-refused}
 use Rattle.answers.proofs.Order.{apart, Says, no-rows, then-row}
 use Rattle.ascii.specs.Rooms.{Wrote}
 use Rattle.ascii.proofs.Rooms.{at-front}
@@ -44,15 +45,13 @@ half-fits bits {i = i} e told = short-longest bits i (sym e ∙ told)
 -- before any other test
 pub no-room : (check : Check) (o : Outcome Written (List ℕ)) (room : List ℕ) → length room < 24
     → outcome (W.Refused R.Room) room ≡ decided (roomChecked room check) o W.Refused room
-unfolding decided
-no-room check o room h = rw (lt-leb _ _ h)
+no-room check o room h = is-refused o W.Refused room refl (rw (lt-leb _ _ h))
 
 -- in a room of 24 bytes
 module _ (room : List ℕ) (wide : 24 ≤ length room) where
   pub text-refused : {check : Check} {r : Refusal} (o : Outcome Written (List ℕ)) → check ≡ Refused r
       → outcome (W.Refused r) room ≡ decided (roomChecked room check) o W.Refused room
-  unfolding decided
-  text-refused o e = rw (le-leb _ _ wide, e)
+  text-refused o e = is-refused o W.Refused room refl (rw (le-leb _ _ wide, e))
 
   pub fills : (text : List ℕ) → textEntry Passed text room ≡ textFilled text room
   unfolding decided

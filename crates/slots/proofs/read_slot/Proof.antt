@@ -3,16 +3,16 @@ use mathlib.Core.Path.{refl}
 use native.Mathlib.Omega.{arith}
 use borrow.Author.Needs.{needs}
 use borrow.Author.Tests.{not-true, not-false}
-use Rattle.answers.specs.Outcomes.{decided}
+use Rattle.answers.proofs.Entries.{is-refused, is-given}
+use Rattle.slots.specs.Slots.{noRead}
 use Rattle.slots.proofs.Slots.{one-record, slot-fits}
 use Rattle.slots.proofs.read_slot.Statement.{statement}
 use Rattle.slots.proofs.read_slot.Tie as tie
 
 returns : tie.Need-returns
-unfolding decided
 returns c =
     let slot = c .before .before .is-slot in
-    rw (← slot .ensures, not-true (slot .result) (c .before .if1 .taken), c .none .ensures) refl
+    rw (c .none .ensures) (is-refused _ noRead tt refl (rw (← slot .ensures, not-true (slot .result) (c .before .if1 .taken))))
 
 mul-at : tie.Need-mul-at
 mul-at c =
@@ -30,31 +30,20 @@ part-part-end c =
     omega (arith, slot-fits (at .k) (at .slots .now) (c .before .is-slot .ensures) (c .if1 .left))
 
 returns-2 : tie.Need-returns-2
-unfolding decided
 returns-2 c =
-    let slot = c .before .before .before .before .before .is-slot in
-    let sound = c .before .before .is-sound in
-    rw (
-      ← slot .ensures,
-      not-false (slot .result) (c .before .before .before .before .if1 .left),
-      ← (rw one-record at (sound .ensures)),
-      not-true (sound .result) (c .before .if2 .taken),
-      c .none2 .ensures,
-    ) refl
+    let sound = c .before .before in
+    let slot = sound .before .before .before in
+    rw (c .none2 .ensures)
+    (is-refused _ noRead tt refl
+    (rw (← slot .is-slot .ensures, not-false (slot .is-slot .result) (sound .before .before .if1 .left), ← (rw one-record at (sound .is-sound .ensures)), not-true (sound .is-sound .result) (c .before .if2 .taken))))
 
 returns-3 : tie.Need-returns-3
-unfolding decided
 returns-3 c =
-    let slot = c .before .before .before .before .before .is-slot in
-    let sound = c .before .before .is-sound in
-    rw (
-      ← slot .ensures,
-      not-false (slot .result) (c .before .before .before .before .if1 .left),
-      ← (rw one-record at (sound .ensures)),
-      not-false (sound .result) (c .before .if2 .left),
-      c .read-record .ensures,
-      one-record,
-    ) refl
+    let sound = c .before .before in
+    let slot = sound .before .before .before in
+    is-given noRead tt refl
+    (rw (← slot .is-slot .ensures, not-false (slot .is-slot .result) (sound .before .before .if1 .left), ← (rw one-record at (sound .is-sound .ensures)), not-false (sound .is-sound .result) (c .before .if2 .left)))
+    (rw (c .read-record .ensures, one-record))
 
 pub read-slot-spec : {M : Type 1} → statement M
 read-slot-spec =

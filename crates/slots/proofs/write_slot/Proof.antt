@@ -3,22 +3,22 @@ use mathlib.Core.Path.{refl, ap}
 use native.Mathlib.Omega.{arith}
 use borrow.Author.Needs.{needs}
 use borrow.Author.Tests.{not-true, not-false}
-use Rattle.answers.specs.declared.Check.the-variants.{Passed}
-use Rattle.answers.specs.Outcomes.{outcome, decided}
+use Rattle.answers.specs.declared.Check.the-variants.{Passed, Refused}
+use Rattle.answers.specs.Outcomes.{outcome}
+use Rattle.answers.proofs.Entries.{is-refused, is-given}
 use Rattle.slots.proofs.Slots.{slot-fits}
 use Rattle.slots.proofs.write_slot.Statement.{statement}
 use Rattle.slots.proofs.write_slot.Tie as tie
 
 returns : tie.Need-returns
-unfolding decided
-returns c = rw (← c .before .is-slot .ensures, not-true (c .before .is-slot .result) (c .if1 .taken)) refl
+returns c = is-refused _ Refused _ refl (rw (← c .before .is-slot .ensures, not-true (c .before .is-slot .result) (c .if1 .taken)))
 
 returns-2 : tie.Need-returns-2
-unfolding decided
 returns-2 c =
     let slot = c .before .before .before .is-slot in
     let formed = c .before .is-well-formed in
-    rw (← slot .ensures, not-false (slot .result) (c .before .before .if1 .left), ← formed .ensures, not-true (formed .result) (c .if2 .taken)) refl
+    is-refused _ Refused _ refl
+    (rw (← slot .ensures, not-false (slot .result) (c .before .before .if1 .left), ← formed .ensures, not-true (formed .result) (c .if2 .taken)))
 
 put-requires : tie.Need-put-requires
 put-requires c κs =
@@ -26,16 +26,13 @@ put-requires c κs =
     omega (arith, slot-fits (at .k) (at .slots .now) (c .before .before .before .before .is-slot .ensures) (c .before .before .before .if1 .left))
 
 returns-3 : tie.Need-returns-3
-unfolding decided
 returns-3 c =
-    let slot = c .before .before .before .before .before .before .before .is-slot in
-    let formed = c .before .before .before .before .before .is-well-formed in
-    rw (
-      ← slot .ensures,
-      not-false (slot .result) (c .before .before .before .before .before .before .if1 .left),
-      ← formed .ensures,
-      not-false (formed .result) (c .before .before .before .before .if2 .left),
-    ) (ap (outcome Passed) (c .before .before .put .ensures))
+    let put = c .before .before in
+    let formed = put .before .before .before in
+    let slot = formed .before .before in
+    is-given Refused _ refl
+    (rw (← slot .is-slot .ensures, not-false (slot .is-slot .result) (formed .before .if1 .left), ← formed .is-well-formed .ensures, not-false (formed .is-well-formed .result) (put .before .before .if2 .left)))
+    (ap (outcome Passed) (put .put .ensures))
 
 pub write-slot-spec : {M : Type 1} → statement M
 write-slot-spec =
