@@ -108,13 +108,20 @@ fn help_and_version() {
         assert!(answer.out.starts_with("Usage: phuyurik "), "{line}");
         let codes = answer.out.split("\nExit codes").nth(1).expect(line);
         assert!(answer.out.lines().all(|line| line.len() <= 80), "{line}");
-        // What a command can end with, the program can.
-        for code in codes
-            .lines()
-            .filter(|text| text.starts_with("  1") || text.starts_with("  3"))
-        {
+        // What a command can end with, the program can; 0 has other words there.
+        let coded = |text: &&str| {
+            let rest = text.strip_prefix("  ").unwrap_or_default();
+            rest.starts_with(|c: char| ('1'..='9').contains(&c))
+        };
+        for code in codes.lines().filter(coded) {
             assert!(program.contains(code), "{line}: {code}");
         }
+    }
+    let run = folder.call("run --help").out;
+    for stop in &Stop::ALL[2..] {
+        let (number, words) = (stop.number(), stop.words());
+        let code = format!("\n  {:<3} stop {number}: {words}\n", 10 + number);
+        assert!(run.contains(&code), "{code}");
     }
     let version = format!("phuyurik {}\n", env!("CARGO_PKG_VERSION"));
     assert_eq!(folder.call("--version").out, version);

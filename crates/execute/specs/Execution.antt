@@ -1,4 +1,4 @@
--- What each instruction does (the manual's chapters 2 and 7), in two halves: what it asks for, by pc and the registers alone, and what comes of that in main memory and the fuse row.
+-- What each instruction does (the manual's chapters 2 and 7), in two halves: what it asks for, by pc, the next address and the registers alone, and what comes of that in main memory and the fuse row.
 use Prim.Native.Nat.{ℕ, _-_, _*_, _%_, _^_}
 use mathlib.Core.Bool.{cond}
 use mathlib.Core.List.{List}

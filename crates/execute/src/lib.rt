@@ -1,4 +1,4 @@
-// One instruction, in two halves: what it asks for, by pc and the registers alone, and what comes of that in memory and row. Neither sees the state.
+// One instruction, in two halves: what it asks for, by pc, the next address and the registers alone, and what comes of that in memory and row. Neither sees the state.
 use access::Effect;
 use access::load;
 use access::store;

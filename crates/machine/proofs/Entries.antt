@@ -15,6 +15,7 @@ pub run-accepted : (b : ℕ) (w : World) → checked w ≡ Passed → runEntry b
 unfolding decided
 run-accepted b w e = ap (λ c. decided c (runGiven b w) noRun (w .board)) e
 
+-- a run that has stopped after a steps ends so with any larger budget
 pub run-ends : (a b : ℕ) (w : World) → paused (ran a w) ≡ false → runEntry (a + b) w ≡ runEntry a w
 unfolding decided
 run-ends a b w p = go (checked w)

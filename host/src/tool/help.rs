@@ -62,7 +62,7 @@ fn codes(commands: &[&Help]) -> String {
 /// How a stop or a refusal becomes an exit code, where there can be one.
 fn rule(stops: bool, refusals: bool) -> &'static str {
     match (stops, refusals) {
-        (true, _) => " (10 + the stop number, 30 + the refusal number)",
+        (true, _) => " (10 + the stop number but for ecall, 30 + the refusal number)",
         (false, true) => " (30 + the refusal number)",
         (false, false) => "",
     }
@@ -207,6 +207,7 @@ Example:
 ",
     runs: false,
     compares: true,
+    // what it lends is its own, and is accepted
     lends: &[],
 };
 

@@ -7,7 +7,7 @@ use Rattle.engine.proofs.act_at.Tie as tie
 returns : tie.Need-returns
 unfolding actFetched
 returns c =
-    rw (← (c .before .before .before .before .before .fetch .ensures), c .before .before .before .found .given .1, ← (c .before .add .ensures)) (c .decide .ensures)
+    rw (← (c .before .before .before .before .before .fetch .ensures), c .before .before .before .found .given .1) (rw (c .before .add .ensures) at (c .decide .ensures))
 
 returns-2 : tie.Need-returns-2
 unfolding actFetched
