@@ -6,7 +6,6 @@ use Rattle.state.specs.declared.State.{State}
 use Rattle.boards.specs.Boards.{Board}
 use Rattle.engine.specs.Steps.{World}
 use Rattle.machine.specs.Entries.{stepEntry, runEntry, ofStepped, ofRan}
-use Rattle.resume.specs.Resuming.{Bench, resumeEntry, ofResumed}
 
 -- the state in its place, then the board
 abbrev pub stepCall : World → Outcome ℕ (State × Board)
@@ -15,7 +14,3 @@ stepCall w = called ofStepped (w .st) (stepEntry w)
 -- the state and the number retired in their places, then the board
 abbrev pub runCall : ℕ → World → ℕ → Outcome ℕ ((State × ℕ) × Board)
 runCall budget w retired = called ofRan (w .st, retired) (runEntry budget w)
-
--- a run carried on from its slot: the number retired in its place, then board and slots
-abbrev pub resumeCall : ℕ → ℕ → Bench → ℕ → Outcome ℕ (ℕ × Bench)
-resumeCall budget k h retired = called ofResumed retired (resumeEntry budget k h)

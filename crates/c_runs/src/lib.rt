@@ -1,15 +1,13 @@
 // The C interface, steps and runs. A state is lent as its four parts: pc, x1 to x31, the retired
 // count and the stop number.
 use answers::Check;
-use resume::Resumed;
 use state::State;
 ghost use mathlib.Core.Path.{_≡_};
 ghost use Rattle.state.specs.States.{state};
 ghost use Rattle.engine.specs.Steps.{world};
 ghost use Rattle.answers.specs.Outcomes.{outcome};
 ghost use Rattle.boards.specs.Boards.{board};
-ghost use Rattle.resume.specs.Resuming.{bench};
-ghost use Rattle.c_runs.specs.Runs.{stepCall, runCall, resumeCall};
+ghost use Rattle.c_runs.specs.Runs.{stepCall, runCall};
 
 // The state that has these parts.
 fn state_of(pc: u32, x: &[u32; 31], count: u64, stop: u8) -> State
@@ -79,25 +77,4 @@ pub extern "C" fn phuyurik_run(
     *stop = last.stop;
     *retired = done.retired;
     0
-}
-
-// Reads slot k, runs it for at most budget steps and writes it back. Refuses with 1 to 5.
-#[no_mangle]
-pub extern "C" fn phuyurik_run_slot(
-    mem: &mut [u8],
-    row: &mut [u8],
-    slots: &mut [u8],
-    k: usize,
-    budget: u64,
-    retired: &mut u64,
-) -> u32
-    ensures { λ r. ⌜ outcome r (now (retired .exit), bench (board (now (mem .exit)) (now (row .exit))) (now (slots .exit))) ≡ resumeCall budget k (bench (board (now (mem .entry)) (now (row .entry))) (now (slots .entry))) (now (retired .entry)) ⌝ }
-{
-    match resume::run_slot(mem, row, slots, k, budget) {
-        Resumed::Retired(n) => {
-            *retired = n;
-            0
-        }
-        Resumed::Refused(why) => why.number() as u32,
-    }
 }

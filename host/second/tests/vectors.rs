@@ -1,90 +1,47 @@
-//! The outside vectors: 28,823 legal halfwords (all that there are) and 6,000 words.
-//!
-//! A line is `HALF WORD SMALLEST OPERATION RD RS1 RS2 IMM`, all hexadecimal. HALF is ffff for a
-//! word of its own, SMALLEST is ffff if there is no short form, OPERATION is ff if illegal.
+//! The second emulator says of every outside vector what the vector says.
+use second::Inst;
+use testing::{Codes, Numbers};
 
-use second::{decode, encode, expand, shorten, Inst};
-
-const NONE: u32 = 0xffff;
-const ILLEGAL: u32 = 0xff;
-
-struct Vector {
-    half: u32,
-    word: u32,
-    smallest: u32,
-    inst: Inst,
-}
-
-fn vectors() -> Vec<Vector> {
-    let path = concat!(env!("CARGO_MANIFEST_DIR"), "/../../crates/vectors/stdin");
-    let lines = std::fs::read_to_string(path).expect("the vectors stand in the repository");
-    lines.lines().map(vector).collect()
-}
-
-fn vector(line: &str) -> Vector {
-    let fields = line.split(' ');
-    let numbers: Vec<u32> = fields
-        .map(|f| u32::from_str_radix(f, 16).unwrap())
-        .collect();
-    let [half, word, smallest, operation, rd, rs1, rs2, imm] = numbers[..] else {
-        panic!("a line of eight numbers: {line}");
-    };
-    let inst = Inst {
+fn inst([operation, rd, rs1, rs2, imm]: Numbers) -> Inst {
+    Inst {
         operation,
         rd,
         rs1,
         rs2,
         imm,
-    };
-    Vector {
-        half,
-        word,
-        smallest,
-        inst,
     }
 }
 
+fn numbers(i: Inst) -> Numbers {
+    [i.operation, i.rd, i.rs1, i.rs2, i.imm]
+}
+
+fn text(write: impl Fn(&mut [u8]) -> Result<usize, u32>) -> Result<String, u32> {
+    let mut room = [0; 24];
+    let length = write(&mut room)?;
+    Ok(String::from_utf8_lossy(&room[..length]).into_owned())
+}
+
+const SECOND: Codes = Codes {
+    decode: |bits| second::decode(bits).map(numbers),
+    encode: |i| second::encode(inst(i)),
+    expand: |bits| second::expand(bits).map(numbers),
+    shorten: |i| second::shorten(inst(i)),
+    text_of_word: |bits| text(|room| second::text_of_word(bits, room)),
+    text_of_half: |bits| text(|room| second::text_of_half(bits, room)),
+};
+
 #[test]
-fn there_are_as_many_as_were_given() {
-    let all = vectors();
-    assert_eq!(all.len(), 34_823);
-    assert_eq!(all.iter().filter(|v| v.half != NONE).count(), 28_823);
+fn words_are_those_of_the_vectors() {
+    SECOND.hold_words();
 }
 
 #[test]
-fn words_decode_and_encode() {
-    for v in vectors() {
-        if v.inst.operation == ILLEGAL {
-            assert_eq!(decode(v.word), Err(7), "{:08x}", v.word);
-        } else {
-            assert_eq!(decode(v.word), Ok(v.inst), "{:08x}", v.word);
-            assert_eq!(encode(v.inst), Ok(v.word));
-        }
-    }
+fn halfwords_are_those_of_the_vectors() {
+    SECOND.hold_halves();
 }
 
 #[test]
-fn instructions_shorten_to_the_smallest() {
-    for v in vectors() {
-        if v.inst.operation == ILLEGAL {
-            continue;
-        }
-        let expected = if v.smallest == NONE {
-            Err(9)
-        } else {
-            Ok(v.smallest as u16)
-        };
-        assert_eq!(shorten(v.inst), expected, "{:08x}", v.word);
-    }
-}
-
-#[test]
-fn halfwords_expand_and_all_others_are_illegal() {
-    let mut expected = vec![Err(7); 65_536];
-    for v in vectors().iter().filter(|v| v.half != NONE) {
-        expected[v.half as usize] = Ok(v.inst);
-    }
-    for (bits, inst) in (0..=u16::MAX).zip(expected) {
-        assert_eq!(expand(bits), inst, "{bits:04x}");
-    }
+fn texts_are_those_of_the_vectors() {
+    SECOND.hold_texts();
 }
