@@ -1,5 +1,5 @@
 # make demo: builds the proved library and shows it at work; make test: the gate
-.PHONY: demo test bench soak peers house archive
+.PHONY: demo test bench soak peers house contracts archive
 
 # the proved library for C and Rust: target/staticlib/libphuyurik.a
 archive:
@@ -29,3 +29,7 @@ peers: archive
 # docs/HOUSE.md, what each crate is and which uses which, from crates.txt
 house:
 	@mkdir -p target; ./docs/house.sh >target/HOUSE.md && cp target/HOUSE.md docs/HOUSE.md
+
+# docs/CONTRACTS.md, every public contract, from the sources
+contracts:
+	@mkdir -p target; cd host && cargo run --quiet -p contracts >../target/CONTRACTS.md && cp ../target/CONTRACTS.md ../docs/CONTRACTS.md

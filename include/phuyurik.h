@@ -14,6 +14,10 @@
 #include <stddef.h>
 #include <stdint.h>
 
+#if SIZE_MAX != UINT64_MAX
+#error "the library's sizes and slot numbers have 64 bits, and so must size_t"
+#endif
+
 #ifdef __cplusplus
 extern "C" {
 #endif

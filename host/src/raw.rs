@@ -1,6 +1,11 @@
 //! The archive's functions, as include/phuyurik.h declares them.
 use crate::Instruction;
 
+const _: () = assert!(
+    usize::BITS == 64,
+    "the library's sizes and slot numbers have 64 bits, and so must usize"
+);
+
 extern "C" {
     pub fn phuyurik_chart(bits: u32, format: &mut u8) -> u32;
     pub fn phuyurik_decode(bits: u32, inst: &mut Instruction) -> u32;

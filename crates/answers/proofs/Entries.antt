@@ -4,15 +4,12 @@ use Prim.Native.Nat.{ℕ}
 use Rattle.answers.specs.Answer.{Answer, given, refusedWith, refused}
 use Rattle.answers.specs.Refusals.{numberOf}
 use Rattle.answers.specs.Outcomes.{Outcome, outcome, decided}
-use Rattle.answers.specs.Entries.{Refuses, Keeps, Silent, Determines}
+use Rattle.answers.specs.Entries.{Refuses, Keeps, Silent}
 use Rattle.answers.proofs.Numbers.{number-of-one}
 use Rattle.answers.proofs.Order.{apart, same-number, Says}
 use Rattle.answers.specs.declared.Refusal.{Refusal}
 use Rattle.answers.specs.declared.Check.{Check}
 use Rattle.answers.specs.declared.Check.the-variants.{Passed, Refused}
-
-pub determined : {A B : Type 0} (o : Outcome A B) → Determines o
-determined o a b l m h k = (ap (λ p. p .answer) (h ∙ sym k), ap (λ p. p .lent) (h ∙ sym k))
 
 -- what an entry comes to where its check was found to be a refusal, or to pass
 pub is-refused : {A B : Type 0} {c d : Check} {r : Refusal} (o : Outcome A B) (refusal : Refusal → A) (before : B) → c ≡ d → c ≡ Refused r

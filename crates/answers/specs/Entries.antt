@@ -3,7 +3,7 @@ use mathlib.Core.Path.{_≡_}
 use mathlib.Core.Logic.{_↔_}
 use Prim.Native.Nat.{ℕ}
 use Rattle.answers.specs.Answer.{Answer, refusedWith}
-use Rattle.answers.specs.Outcomes.{Outcome, outcome}
+use Rattle.answers.specs.Outcomes.{Outcome}
 
 -- it is refused with n exactly if n is the number of the first of these rows that holds
 abbrev pub Refuses : {A B C : Type 0} → (A → Answer C) → Outcome A B → (ℕ → Type 0) → Type 0
@@ -16,7 +16,3 @@ Keeps read o before = (n : ℕ) → read (o .answer) ≡ refusedWith n → o .le
 -- a refusal returns its number and no other fact: two calls that are refused with one number answer the same, whatever was lent to them
 abbrev pub Silent : {I A B C : Type 0} → (A → Answer C) → (I → Outcome A B) → Type 0
 Silent {I} read entry = (i j : I) (n : ℕ) → read (entry i .answer) ≡ refusedWith n → read (entry j .answer) ≡ refusedWith n → entry i .answer ≡ entry j .answer
-
--- any two outcomes that its contract allows are equal: the answer, and each lent buffer
-abbrev pub Determines : {A B : Type 0} → Outcome A B → Type 0
-Determines {A} {B} o = (a b : A) (l m : B) → outcome a l ≡ o → outcome b m ≡ o → (a ≡ b) × (l ≡ m)

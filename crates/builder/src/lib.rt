@@ -7,6 +7,7 @@ use isa::ImmOp;
 use isa::Inst;
 use isa::LoadOp;
 use isa::MulDivOp;
+use isa::Named;
 use isa::Parts;
 use isa::Reg;
 use isa::ShiftOp;
@@ -92,9 +93,15 @@ pub fn inst_of(operation: u32, rd: u32, rs1: u32, rs2: u32, imm: u32) -> Built
     if operation > 47 {
         return Built::OutOfRange;
     }
-    if !((rd < 32) & ((rs1 < 32) & (rs2 < 32))) {
+    let Named::Register(d) = Reg::new(rd) else {
         return Built::OutOfRange;
-    }
+    };
+    let Named::Register(s) = Reg::new(rs1) else {
+        return Built::OutOfRange;
+    };
+    let Named::Register(t) = Reg::new(rs2) else {
+        return Built::OutOfRange;
+    };
     let operation = operation as u8;
     let given = Parts {
         operation,
@@ -103,13 +110,7 @@ pub fn inst_of(operation: u32, rd: u32, rs1: u32, rs2: u32, imm: u32) -> Built
         rs2,
         imm,
     };
-    let i = built(
-        operation,
-        Reg::field5(rd),
-        Reg::field5(rs1),
-        Reg::field5(rs2),
-        imm,
-    );
+    let i = built(operation, d, s, t, imm);
     if !same_parts(parts_of(i), given) {
         return Built::OutOfRange;
     }

@@ -23,11 +23,13 @@ impl Reg {
     pub const STACK: Reg = Reg { number: 2 };
 
     // The register with this number, which is 0 to 31 and nothing else.
-    pub fn new(number: u8) -> Named
+    pub fn new(number: u32) -> Named
         ensures { λ r. ⌜ r ≡ register number ⌝ }
     {
         if number < 32 {
-            Named::Register(Reg { number })
+            Named::Register(Reg {
+                number: number as u8,
+            })
         } else {
             Named::OutOfRange
         }

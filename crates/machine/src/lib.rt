@@ -64,9 +64,10 @@ pub fn run(s: State, mem: &mut [u8], row: &mut [u8], budget: u64) -> Ran
         };
     }
     let t = run_steps(s, mem, row, budget);
+    let retired = t.count - s.count;
     Ran {
         check: Check::Passed,
         state: t,
-        retired: t.count - s.count,
+        retired,
     }
 }

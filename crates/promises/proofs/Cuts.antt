@@ -1,14 +1,15 @@
--- A cut run ends as the uncut one. A record reads back as its state, and a step keeps all that the entries ask, so each piece starts where the piece before it ended and is accepted; runs add up. A slot that is left as it was read holds the same bytes.
+-- A cut run ends as the uncut one. A record reads back as its state, whatever else its buffer has, and a step keeps all that the entries ask, so each piece starts where the piece before it ended and is accepted; runs add up. A slot that is left as it was read holds the same bytes.
 -- Assumes nothing.
 use mathlib.Core.Path.{_≡_, refl, sym, ap, ap₂, _∙_}
 use mathlib.Core.Bool.{Bool, true, false}
 use mathlib.Core.Logic.{_⊎_, inl, inr}
 use mathlib.Core.List.{List, [], _∷_}
 use Prim.Native.Nat.{ℕ, _+_, _*_, _^_}
+use native.Mathlib.Omega.{arith}
 use lib.ListN.{take, drop}
 use lib.Dec.{eqb}
 use borrow.Author.Tests.{eqb-true, eqb-false}
-use Rattle.answers.specs.Answer.{Answer, given}
+use Rattle.answers.specs.Answer.{given}
 use Rattle.answers.specs.Checks.{unless}
 use Rattle.answers.specs.Outcomes.{Outcome, outcome, decided}
 use Rattle.answers.proofs.Checks.{both-passed}
@@ -22,7 +23,7 @@ use Rattle.octets.specs.Bytes.{load}
 use Rattle.state.specs.declared.State.{State}
 use Rattle.state.specs.States.{noState, stateChecked}
 use Rattle.boards.specs.Boards.{BoardFits, boardChecked}
-use Rattle.boards.proofs.Boards.{board-refused, board-passed, board-accepted}
+use Rattle.boards.proofs.Boards.{board-refused, board-passed, board-accepted, lendable-passes}
 use Rattle.engine.specs.Steps.{World, world, checked, paused, ran, retired}
 use Rattle.engine.proofs.Laws.{ran-add, retired-add}
 use Rattle.engine.proofs.Kept.{Runnable, runnable-passes, passes-runnable, runnable-ran}
@@ -32,75 +33,71 @@ use Rattle.machine.specs.Entries.{ranTo, runGiven, noRun, runEntry, ofRan}
 use Rattle.records.specs.Records.{recordOf}
 use Rattle.records.proofs.Records.{length-record, write-back, bytes-fit}
 use Rattle.slots.specs.Slots.{slotThere, slotAt, slotSet, writeChecked, writeEntry, ofWrite, readChecked, readTo, noRead, readEntry, ofReadBack}
-use Rattle.slots.proofs.Slots.{there-fits, slot-set-at, take-before, drop-after, slot-same, slot-bytes, ReadsWell, reads-well, same-record, SlotHolds, holds-set, read-held, write-passes}
+use Rattle.slots.proofs.Slots.{there-fits, slot-set-at, take-before, drop-after, slot-same, slot-bytes, ReadsWell, reads-well, same-record, SlotHolds, holds-set, read-held, write-passes, check-was, state-was}
 use Rattle.resume.specs.declared.Resumed.{Resumed}
 use Rattle.resume.specs.declared.Resumed.the-variants as A
-use Rattle.resume.specs.Resuming.{Bench, bench, slotWorld, benchLeft, resumeChecked, resumeGiven, ofResumed}
-use Rattle.promises.specs.Cuts.{pieceStart, piece, pieces, answers, total, manual, Cut, sumAnswered, RetiredAddsUp, SlotRunIsPiece, SlotRunAnswers, SlotsStay, RecordOfState, WritesItsSlot}
+use Rattle.resume.specs.Resuming.{Bench, bench, slotWorld, benchLeft, resumeChecked, resumeGiven, resumeEntry, ofResumed}
+use Rattle.promises.specs.Cuts.{Piece, SlotsThere, leftBy, readBack, cutRun, answers, total, manual, Cut, sumAnswered, RetiredAddsUp, slotStart, slotRun, SlotRunIsPiece, slotRuns, added, SlotRunsAddUp, SlotRunAnswers, SlotsStay, RecordOfState, WritesItsSlot}
 use Rattle.promises.proofs.Refusals.{accepted-passes, slot-accepted-passes}
 use Rattle.promises.proofs.Steps.{no-budget, stays-stopped}
 
--- ---- one piece
+-- ---- one run, and one cut
 
 run-runs : (b : ℕ) {v w : World} → v ≡ w → Runnable w → runEntry b v ≡ runGiven b w
 run-runs b {v} {w} e g = ap (runEntry b) e ∙ run-accepted b w (runnable-passes w g)
 
--- a piece that ended at v
-piece-runs : (k b n : ℕ) (h : Bench) (v : World) → slotThere k (h .slots) ≡ true → Runnable v → runEntry b (pieceStart k h) ≡ outcome (ranTo (v .st) n) (v .board)
-    → piece k b h ≡ benchLeft k v (h .slots)
-unfolding piece
-piece-runs k b n h v t g e =
+-- a state that was written to a slot is read back from it
+reads-back : (p : Piece) (w : World) → Runnable w → slotThere (p .slot) (p .slots) ≡ true → readBack p w ≡ w
+reads-back p w g t =
+    let s = w .st in
+    ap (λ o. world (readEntry (p .slot) (o .lent) .answer .state) (w .board)) (write-passes (p .slot) s (p .slots) t (g .0 .1))
+    ∙ ap (λ o. world (o .answer .state) (w .board)) (read-held (p .slot) s _ (holds-set (p .slot) s (p .slots) (g .0 .0 .x-length) t) (g .0 .0) (g .0 .1))
+
+-- ---- the pieces, one after the other
+
+ends : (b : ℕ) (ps : List Piece) {v w : World} → v ≡ w → Runnable w → SlotsThere ps → (cutRun b ps v ≡ ran (total b ps) w) × (answers b ps v ≡ manual b ps w)
+unfolding cutRun answers total manual SlotsThere
+ends b [] {v} {w} e g t =
+    let o = run-runs b e g in
+    (ap (λ q. world (q .answer .state) (q .lent)) o, ap (λ q. ofRan (q .answer) ∷ []) o)
+ends b (p ∷ ps) {v} {w} e g t =
+    let o = run-runs b e g in
+    let g′ : Runnable (ran b w) = runnable-ran b w g in
+    let left : leftBy b v ≡ ran b w = ap (λ q. world (q .answer .state) (q .lent)) o in
+    let i = ends (p .budget) ps (ap (readBack p) left ∙ reads-back p (ran b w) g′ (t .0)) g′ (t .1) in
+    (i .0 ∙ sym (ran-add b (total (p .budget) ps) w), λ j. ofRan (o j .answer) ∷ i .1 j)
+
+pub cut : Cut
+cut b ps w z a t = ends b ps refl (passes-runnable w z (accepted-passes w a)) t
+
+manual-adds-up : (b : ℕ) (ps : List Piece) (w : World) → sumAnswered (manual b ps w) ≡ retired (total b ps) w
+unfolding sumAnswered manual total
+manual-adds-up b [] w = omega arith
+manual-adds-up b (p ∷ ps) w = ap (λ n. retired b w + n) (manual-adds-up (p .budget) ps (ran b w)) ∙ sym (retired-add b (total (p .budget) ps) w)
+
+pub retired-adds-up : RetiredAddsUp
+retired-adds-up b ps w z a t = ap sumAnswered (cut b ps w z a t .1) ∙ manual-adds-up b ps w
+
+-- ---- running a slot
+
+-- a run from the slot that ended at v
+run-left : (b k n : ℕ) (h : Bench) (v : World) → slotThere k (h .slots) ≡ true → Runnable v → runEntry b (slotStart k h) ≡ outcome (ranTo (v .st) n) (v .board)
+    → slotRun b k h ≡ benchLeft k v (h .slots)
+unfolding slotRun
+run-left b k n h v t g e =
     ap (λ (o : Outcome Ran _). bench (o .lent) (writeEntry k (o .answer .state) (h .slots) .lent)) e
     ∙ ap (λ (o : Outcome Check _). bench (v .board) (o .lent)) (write-passes k (v .st) (h .slots) t (g .0 .1))
 
--- a refused piece leaves everything: there is no state to write
-piece-refused : (k b : ℕ) (h : Bench) (r : Refusal) → checked (pieceStart k h) ≡ Refused r → piece k b h ≡ h
-unfolding piece decided
-piece-refused k b h r e =
-    ap (λ c. bench (decided c (runGiven b (pieceStart k h)) noRun (h .board) .lent) (writeEntry k (decided c (runGiven b (pieceStart k h)) noRun (h .board) .answer .state) (h .slots) .lent)) e
+-- a refused one leaves everything: there is no state to write
+run-refused : (b k : ℕ) (h : Bench) (r : Refusal) → checked (slotStart k h) ≡ Refused r → slotRun b k h ≡ h
+unfolding slotRun decided
+run-refused b k h r e =
+    ap (λ c. bench (decided c (runGiven b (slotStart k h)) noRun (h .board) .lent) (writeEntry k (decided c (runGiven b (slotStart k h)) noRun (h .board) .answer .state) (h .slots) .lent)) e
     ∙ ap (bench (h .board)) (go (slotThere k (h .slots)))
   where
     go : (t : Bool) → decided (unless t R.Slot (Refused R.State)) (outcome Passed (slotSet k (recordOf noState) (h .slots))) Refused (h .slots) .lent ≡ h .slots
     go true = refl
     go false = refl
-
--- ---- the pieces, one after the other
-
--- pieces that end at p and answer a, where the manual ends at v and answers e
-abbrev EndsAlike : ℕ → Bench → List (Answer (State × ℕ)) → World → List (Answer (State × ℕ)) → Type 0
-EndsAlike k p a v e = (ofReadBack (readEntry k (p .slots) .answer) ≡ given (v .st)) × (p .board ≡ v .board) × (a ≡ e)
-
-moved : (k : ℕ) {p q : Bench} {v u : World} {a e : List (Answer (State × ℕ))} → p ≡ q → v ≡ u → EndsAlike k q a u e → EndsAlike k p a v e
-moved k c d h = rw (c, d) h
-
-ends : (k : ℕ) (bs : List ℕ) (h : Bench) (s : State) → SlotHolds k s (h .slots) → Runnable (world s (h .board))
-    → EndsAlike k (pieces k bs h) (answers k bs h) (ran (total bs) (world s (h .board))) (manual bs (world s (h .board)))
-unfolding pieces answers total manual ran
-ends k [] h s p g = (ap (λ (o : Outcome _ _). ofReadBack (o .answer)) (read-held k s (h .slots) p (g .0 .0) (g .0 .1)), refl, refl)
-ends k (b ∷ bs) h s p g =
-    let w : World = world s (h .board) in
-    let v : World = ran b w in
-    let g′ : Runnable v = runnable-ran b w g in
-    let o = run-runs b (ap (λ q. world (q .answer .state) (h .board)) (read-held k s (h .slots) p (g .0 .0) (g .0 .1))) g in
-    let e : piece k b h ≡ benchLeft k v (h .slots) = piece-runs k b (retired b w) h v (p .there) g′ o in
-    let a : ofRan (runEntry b (pieceStart k h) .answer) ≡ given (v .st, retired b w) = ap (λ q. ofRan (q .answer)) o in
-    let i = ends k bs (benchLeft k v (h .slots)) (v .st) (holds-set k (v .st) (h .slots) (g′ .0 .0 .x-length) (p .there)) g′ in
-    moved k (ap (pieces k bs) e) (ran-add b (total bs) w) (i .0, i .1, λ j. a j ∷ (ap (answers k bs) e ∙ i .2) j)
-
-pub cut : Cut
-cut k bs w slots z a t =
-    let g : Runnable w = passes-runnable w z (accepted-passes w a) in
-    rw (write-passes k (w .st) slots t (g .0 .1)) (ends k bs (benchLeft k w slots) (w .st) (holds-set k (w .st) slots (z .state-fits .x-length) t) g)
-
-manual-adds-up : (bs : List ℕ) (w : World) → sumAnswered (manual bs w) ≡ retired (total bs) w
-unfolding sumAnswered manual total retired
-manual-adds-up [] w = refl
-manual-adds-up (b ∷ bs) w = ap (λ n. retired b w + n) (manual-adds-up bs (ran b w)) ∙ sym (retired-add b (total bs) w)
-
-pub retired-adds-up : RetiredAddsUp
-retired-adds-up k bs w slots z a t = ap sumAnswered (cut k bs w slots z a t .2) ∙ manual-adds-up bs w
-
--- ---- running a slot
 
 module _ (b k : ℕ) (h : Bench) where
   -- what running the slot comes to, by its check
@@ -108,11 +105,11 @@ module _ (b k : ℕ) (h : Bench) where
   resumed c = decided c (resumeGiven b k h) A.Refused h
 
   abbrev Same : Type 0
-  Same = resumed (resumeChecked k h) .lent ≡ piece k b h
+  Same = resumed (resumeChecked k h) .lent ≡ slotRun b k h
 
-  both-refused : (p q : Refusal) → resumeChecked k h ≡ Refused p → checked (pieceStart k h) ≡ Refused q → Same
+  both-refused : (p q : Refusal) → resumeChecked k h ≡ Refused p → checked (slotStart k h) ≡ Refused q → Same
   unfolding decided
-  both-refused p q e d = ap (λ c. resumed c .lent) e ∙ sym (piece-refused k b h q d)
+  both-refused p q e d = ap (λ c. resumed c .lent) e ∙ sym (run-refused b k h q d)
 
   -- a slot that does not read leaves no state that could run
   unread : (r : Refusal) → boardChecked (h .board) Passed ≡ Passed → readChecked k (h .slots) ≡ Refused r → Same
@@ -127,9 +124,9 @@ module _ (b k : ℕ) (h : Bench) where
   read f sb l e =
       let w : World = slotWorld k h in
       let r : ReadsWell k (h .slots) = reads-well k (h .slots) e in
-      let a : pieceStart k h ≡ w = ap (λ c. world (decided c (outcome (readTo (w .st)) tt) noRead tt .answer .state) (h .board)) e in
+      let a : slotStart k h ≡ w = ap (λ c. world (decided c (outcome (readTo (w .st)) tt) noRead tt .answer .state) (h .board)) e in
       let g : Runnable w = ((bytes-fit (slotAt k (h .slots)) (slot-bytes k (h .slots) sb), r .formed), (f, board-accepted (h .board) Passed l .0)) in
-      ap (λ c. resumed c .lent) (board-passed (h .board) _ l ∙ e) ∙ sym (piece-runs k b (retired b w) h (ran b w) (r .there) (runnable-ran b w g) (run-runs b a g))
+      ap (λ c. resumed c .lent) (board-passed (h .board) _ l ∙ e) ∙ sym (run-left b k (retired b w) h (ran b w) (r .there) (runnable-ran b w g) (run-runs b a g))
 
 pub slot-run-is-piece : SlotRunIsPiece
 slot-run-is-piece b k h f sb = go (boardChecked (h .board) Passed) (readChecked k (h .slots)) refl refl
@@ -142,6 +139,38 @@ slot-run-is-piece b k h f sb = go (boardChecked (h .board) Passed) (readChecked 
 pub slot-run-answers : SlotRunAnswers
 unfolding decided
 slot-run-answers b k h a = ap (λ c. ofResumed (resumed b k h c .answer)) (slot-accepted-passes k h a)
+
+-- ---- slot runs, one after the other
+
+-- slot k holds s: a run of it leaves the manual's steps there
+slot-goes : (b k : ℕ) (h : Bench) (s : State) → SlotHolds k s (h .slots) → Runnable (world s (h .board)) → resumeEntry b k h .lent ≡ benchLeft k (ran b (world s (h .board))) (h .slots)
+unfolding decided
+slot-goes b k h s p g =
+    let e = sym (read-held k s (h .slots) p (g .0 .0) (g .0 .1)) in
+    let c : resumeChecked k h ≡ Passed = lendable-passes (h .board) _ (g .1 .1) ∙ check-was k (h .slots) e refl in
+    ap (λ d. resumed b k h d .lent) c ∙ ap (λ q. benchLeft k (ran b (world q (h .board))) (h .slots)) (sym (state-was k (h .slots) e refl))
+
+-- the bench h has the world v: in slot k and on its board
+abbrev Holds : ℕ → Bench → World → Type 0
+Holds k h v = (ofReadBack (readEntry k (h .slots) .answer) ≡ given (v .st)) × (h .board ≡ v .board)
+
+moved : (k : ℕ) {p q : Bench} {v u : World} → p ≡ q → v ≡ u → Holds k q u → Holds k p v
+moved k c d h = rw (c, d) h
+
+slot-ends : (k : ℕ) (bs : List ℕ) (h : Bench) (s : State) → SlotHolds k s (h .slots) → Runnable (world s (h .board)) → Holds k (slotRuns k bs h) (ran (added bs) (world s (h .board)))
+unfolding slotRuns added ran
+slot-ends k [] h s p g = (ap (λ (o : Outcome _ _). ofReadBack (o .answer)) (read-held k s (h .slots) p (g .0 .0) (g .0 .1)), refl)
+slot-ends k (b ∷ bs) h s p g =
+    let w : World = world s (h .board) in
+    let v : World = ran b w in
+    let g′ : Runnable v = runnable-ran b w g in
+    moved k (ap (slotRuns k bs) (slot-goes b k h s p g)) (ran-add b (added bs) w)
+    (slot-ends k bs (benchLeft k v (h .slots)) (v .st) (holds-set k (v .st) (h .slots) (g′ .0 .0 .x-length) (p .there)) g′)
+
+pub slot-runs-add-up : SlotRunsAddUp
+slot-runs-add-up k bs w slots z a t =
+    let g : Runnable w = passes-runnable w z (accepted-passes w a) in
+    rw (write-passes k (w .st) slots t (g .0 .1)) (slot-ends k bs (benchLeft k w slots) (w .st) (holds-set k (w .st) slots (z .state-fits .x-length) t) g)
 
 -- ---- a slot as it was
 

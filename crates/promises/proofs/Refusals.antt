@@ -7,7 +7,7 @@ use lib.Dec.{eqb, leb}
 use borrow.Author.Tests.{leb-false, lt-leb, eqb-false, ne-eqb}
 use Rattle.answers.specs.Order.{refusal, noRefusal}
 use Rattle.answers.proofs.Order.{Says, no-rows, then-row, all-pass}
-use Rattle.answers.proofs.Entries.{exactly, keeps-lent, silent, determined}
+use Rattle.answers.proofs.Entries.{exactly, keeps-lent, silent}
 use Rattle.answers.specs.declared.Refusal.the-variants as R
 use Rattle.answers.specs.declared.Check.{Check}
 use Rattle.answers.specs.declared.Check.the-variants.{Passed, Refused}
@@ -20,13 +20,13 @@ use Rattle.state.specs.States.{wellFormed, stateChecked}
 use Rattle.state.proofs.Laws.{malformed}
 use Rattle.boards.specs.Boards.{Board, boardChecked, longestMemory}
 use Rattle.engine.specs.Steps.{World, checked}
-use Rattle.machine.specs.Entries.{noStep, stepEntry, ofStepped, noRun, runEntry, ofRan}
+use Rattle.machine.specs.Entries.{noStep, ofStepped, noRun, ofRan}
 use Rattle.records.specs.Records.{stateOf, recordSound}
-use Rattle.slots.specs.Slots.{slotThere, slotAt, writeChecked, writeEntry, ofWrite, readChecked, noRead, readEntry, ofReadBack}
+use Rattle.slots.specs.Slots.{slotThere, slotAt, writeChecked, ofWrite, readChecked, noRead, ofReadBack}
 use Rattle.slots.proofs.Slots.{no-slot}
 use Rattle.resume.specs.declared.Resumed.the-variants as A
-use Rattle.resume.specs.Resuming.{Bench, resumeChecked, resumeEntry, ofResumed}
-use Rattle.promises.specs.Refusals.{Malformed, boardRows, machineRows, writeRows, readRows, resumeRows, StepRefuses, RunRefuses, WriteRefuses, ReadRefuses, ResumeRefuses, StepKeeps, RunKeeps, WriteKeeps, ResumeKeeps, NoOtherFact, StepDetermined, RunDetermined, WriteDetermined, ReadDetermined, ResumeDetermined}
+use Rattle.resume.specs.Resuming.{Bench, resumeChecked, ofResumed}
+use Rattle.promises.specs.Refusals.{Malformed, boardRows, machineRows, writeRows, readRows, resumeRows, StepRefuses, RunRefuses, WriteRefuses, ReadRefuses, ResumeRefuses, StepKeeps, RunKeeps, WriteKeeps, ResumeKeeps, NoOtherFact}
 use Rattle.promises.specs.Steps.{Accepted}
 use Rattle.promises.specs.Cuts.{SlotAccepted}
 
@@ -105,20 +105,3 @@ no-other-fact = (
   silent ofReadBack noRead (λ r. refl) (λ i. readChecked (i .0) (i .1)) _ (λ i. tt) _ (λ i. refl),
   silent ofResumed A.Refused (λ r. refl) (λ i. resumeChecked (i .1) (i .2)) _ (λ i. i .2) _ (λ i. refl),
 )
-
--- ---- no choice
-
-pub step-determined : StepDetermined
-step-determined w = determined (stepEntry w)
-
-pub run-determined : RunDetermined
-run-determined b w = determined (runEntry b w)
-
-pub write-determined : WriteDetermined
-write-determined k s slots = determined (writeEntry k s slots)
-
-pub read-determined : ReadDetermined
-read-determined k slots = determined (readEntry k slots)
-
-pub resume-determined : ResumeDetermined
-resume-determined b k h = determined (resumeEntry b k h)

@@ -1,4 +1,4 @@
--- Demand 3, first part: however a run's budget is cut, with the state written to a slot and read back at each cut, the end is that of the manual's steps under the whole budget.
+-- Demand 3, first part: however a run's budget is cut, with the state written to a slot and read back at each cut, each time to any slot of any buffer, the end is that of the manual's steps under the whole budget.
 -- Each statement is proved in proofs/Cuts.antt.
 use mathlib.Core.Path.{_≡_}
 use mathlib.Core.Bool.{true, false}
@@ -21,42 +21,52 @@ use Rattle.resume.specs.declared.Resumed.the-variants.{Retired}
 use Rattle.promises.specs.Refusals.{resumeRows, RecordMalformed}
 use Rattle.promises.specs.Steps.{Accepted}
 
--- a piece: the state is read back from slot k, run with budget b, and written to the slot
-abbrev pub pieceStart : ℕ → Bench → World
-pieceStart k h = world (readEntry k (h .slots) .answer .state) (h .board)
+-- ---- a run that is cut
 
-unfoldable pub piece : ℕ → ℕ → Bench → Bench
-piece k b h = bench (runEntry b (pieceStart k h) .lent) (writeEntry k (runEntry b (pieceStart k h) .answer .state) (h .slots) .lent)
+-- a cut, and the piece after it: the state is written to this slot of this buffer, whatever else the buffer has, and read back; then it is run with this budget
+pub record Piece : Type 0 where
+  pub slot : ℕ
+  pub slots : List ℕ
+  pub budget : ℕ
 
-unfoldable pub pieces : ℕ → List ℕ → Bench → Bench
-pieces k [] h = h
-pieces k (b ∷ bs) h = pieces k bs (piece k b h)
+-- the slot is accepted: the buffer has it
+unfoldable pub SlotsThere : List Piece → Type 0
+SlotsThere [] = Unit {0}
+SlotsThere (p ∷ ps) = (slotThere (p .slot) (p .slots) ≡ true) × SlotsThere ps
+
+-- what a run leaves: its last state, and the board
+abbrev pub leftBy : ℕ → World → World
+leftBy b w = world (runEntry b w .answer .state) (runEntry b w .lent)
+
+-- the state written and read back
+abbrev pub readBack : Piece → World → World
+readBack p w = world (readEntry (p .slot) (writeEntry (p .slot) (w .st) (p .slots) .lent) .answer .state) (w .board)
+
+-- a first piece of budget b from w, then the others
+unfoldable pub cutRun : ℕ → List Piece → World → World
+cutRun b [] w = leftBy b w
+cutRun b (p ∷ ps) w = cutRun (p .budget) ps (readBack p (leftBy b w))
 
 -- what each piece answers: its last state and the number retired
-unfoldable pub answers : ℕ → List ℕ → Bench → List (Answer (State × ℕ))
-answers k [] h = []
-answers k (b ∷ bs) h = ofRan (runEntry b (pieceStart k h) .answer) ∷ answers k bs (piece k b h)
+unfoldable pub answers : ℕ → List Piece → World → List (Answer (State × ℕ))
+answers b [] w = ofRan (runEntry b w .answer) ∷ []
+answers b (p ∷ ps) w = ofRan (runEntry b w .answer) ∷ answers (p .budget) ps (readBack p (leftBy b w))
 
-unfoldable pub total : List ℕ → ℕ
-total [] = 0
-total (b ∷ bs) = b + total bs
+-- the whole budget
+unfoldable pub total : ℕ → List Piece → ℕ
+total b [] = b
+total b (p ∷ ps) = b + total (p .budget) ps
 
 -- what each piece should answer: the manual's steps of its budget, from where the piece before it ended
-unfoldable pub manual : List ℕ → World → List (Answer (State × ℕ))
-manual [] w = []
-manual (b ∷ bs) w = given (ran b w .st, retired b w) ∷ manual bs (ran b w)
+unfoldable pub manual : ℕ → List Piece → World → List (Answer (State × ℕ))
+manual b [] w = given (ran b w .st, retired b w) ∷ []
+manual b (p ∷ ps) w = given (ran b w .st, retired b w) ∷ manual (p .budget) ps (ran b w)
 
--- a start w, with its state written to slot k
-abbrev pub saved : ℕ → World → List ℕ → Bench
-saved k w slots = bench (w .board) (writeEntry k (w .st) slots .lent)
-
--- for every accepted start and every list of budgets, zeros among them, and every slot that is there: the final state and board are those of the manual's steps under the whole budget, uncut; every piece is accepted and answers its own part
+-- for every accepted start and all pieces, zeros among their budgets, each with an accepted slot of its own: the final state and board are those of the manual's steps under the whole budget, uncut; every piece is accepted and answers its own part
 abbrev pub Cut : Type 0
 Cut =
-    (k : ℕ) (bs : List ℕ) (w : World) (slots : List ℕ) → Sized w → Accepted w → slotThere k slots ≡ true
-    → (ofReadBack (readEntry k (pieces k bs (saved k w slots) .slots) .answer) ≡ given (ran (total bs) w .st))
-    × (pieces k bs (saved k w slots) .board ≡ ran (total bs) w .board)
-    × (answers k bs (saved k w slots) ≡ manual bs w)
+    (b : ℕ) (ps : List Piece) (w : World) → Sized w → Accepted w → SlotsThere ps
+    → (cutRun b ps w ≡ ran (total b ps) w) × (answers b ps w ≡ manual b ps w)
 
 -- the numbers retired that are answered, added up
 unfoldable pub sumAnswered : List (Answer (State × ℕ)) → ℕ
@@ -67,14 +77,41 @@ sumAnswered (refusedWith n ∷ rest) = sumAnswered rest
 -- those of the pieces add up to the number retired in the uncut run
 abbrev pub RetiredAddsUp : Type 0
 RetiredAddsUp =
-    (k : ℕ) (bs : List ℕ) (w : World) (slots : List ℕ) → Sized w → Accepted w → slotThere k slots ≡ true
-    → sumAnswered (answers k bs (saved k w slots)) ≡ retired (total bs) w
+    (b : ℕ) (ps : List Piece) (w : World) → Sized w → Accepted w → SlotsThere ps
+    → sumAnswered (answers b ps w) ≡ retired (total b ps) w
 
 -- ---- running a slot
 
--- running a slot is a piece: reading it, running, and writing it back
+-- reading slot k, running what it holds, and writing that back
+abbrev pub slotStart : ℕ → Bench → World
+slotStart k h = world (readEntry k (h .slots) .answer .state) (h .board)
+
+unfoldable pub slotRun : ℕ → ℕ → Bench → Bench
+slotRun b k h = bench (leftBy b (slotStart k h) .board) (writeEntry k (leftBy b (slotStart k h) .st) (h .slots) .lent)
+
+-- is what running the slot leaves, refused or not
 abbrev pub SlotRunIsPiece : Type 0
-SlotRunIsPiece = (b k : ℕ) (h : Bench) → BoardFits (h .board) → AllBelow (2 ^ 8) (h .slots) → resumeEntry b k h .lent ≡ piece k b h
+SlotRunIsPiece = (b k : ℕ) (h : Bench) → BoardFits (h .board) → AllBelow (2 ^ 8) (h .slots) → resumeEntry b k h .lent ≡ slotRun b k h
+
+-- a start w, with its state written to slot k
+abbrev pub saved : ℕ → World → List ℕ → Bench
+saved k w slots = bench (w .board) (writeEntry k (w .st) slots .lent)
+
+-- slot k run once for each of these budgets
+unfoldable pub slotRuns : ℕ → List ℕ → Bench → Bench
+slotRuns k [] h = h
+slotRuns k (b ∷ bs) h = slotRuns k bs (resumeEntry b k h .lent)
+
+unfoldable pub added : List ℕ → ℕ
+added [] = 0
+added (b ∷ bs) = b + added bs
+
+-- a start that is written to slot k and run there, time after time, ends as the manual's steps under the whole budget: the slot reads as their state, and the board is theirs
+abbrev pub SlotRunsAddUp : Type 0
+SlotRunsAddUp =
+    (k : ℕ) (bs : List ℕ) (w : World) (slots : List ℕ) → Sized w → Accepted w → slotThere k slots ≡ true
+    → (ofReadBack (readEntry k (slotRuns k bs (saved k w slots) .slots) .answer) ≡ given (ran (added bs) w .st))
+    × (slotRuns k bs (saved k w slots) .board ≡ ran (added bs) w .board)
 
 -- no row of the table holds for a slot that is to run
 abbrev pub SlotAccepted : ℕ → Bench → Type 0

@@ -8,7 +8,7 @@ use Prim.Native.Nat.{ℕ, _%_, _/_, _≤_, _<_}
 use lib.ListN.{length}
 use Rattle.answers.specs.Stops.{lastStop}
 use Rattle.answers.specs.Order.{refusal, noRefusal}
-use Rattle.answers.specs.Entries.{Refuses, Keeps, Silent, Determines}
+use Rattle.answers.specs.Entries.{Refuses, Keeps, Silent}
 use Rattle.octets.specs.Bytes.{load}
 use Rattle.fuses.specs.Row.{keepsRules}
 use Rattle.state.specs.declared.State.{State}
@@ -104,20 +104,3 @@ NoOtherFact =
     × Silent ofWrite (λ (i : ℕ × State × List ℕ). writeEntry (i .0) (i .1) (i .2))
     × Silent ofReadBack (λ (i : ℕ × List ℕ). readEntry (i .0) (i .1))
     × Silent ofResumed (λ (i : ℕ × ℕ × Bench). resumeEntry (i .0) (i .1) (i .2))
-
--- ---- "Show that any two outcomes it allows are equal": a contract is an equation, of the answer and of each lent buffer as the call leaves it, to what an entry says of its input
-
-abbrev pub StepDetermined : Type 0
-StepDetermined = (w : World) → Determines (stepEntry w)
-
-abbrev pub RunDetermined : Type 0
-RunDetermined = (b : ℕ) (w : World) → Determines (runEntry b w)
-
-abbrev pub WriteDetermined : Type 0
-WriteDetermined = (k : ℕ) (s : State) (slots : List ℕ) → Determines (writeEntry k s slots)
-
-abbrev pub ReadDetermined : Type 0
-ReadDetermined = (k : ℕ) (slots : List ℕ) → Determines (readEntry k slots)
-
-abbrev pub ResumeDetermined : Type 0
-ResumeDetermined = (b k : ℕ) (h : Bench) → Determines (resumeEntry b k h)

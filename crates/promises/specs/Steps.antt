@@ -1,24 +1,14 @@
--- Demand 2: each step of the code is the manual's step, and a 16-bit instruction acts as the 32-bit one it stands for, but for its length; and the paper's rules of a step and of a run.
+-- Demand 2: each step of the code is the manual's step; and the paper's rules of a step and of a run.
 -- Each statement is proved in proofs/Steps.antt.
 use mathlib.Core.Path.{_≡_}
 use mathlib.Core.Bool.{true, false}
 use mathlib.Core.Logic.{_↔_}
-use mathlib.Core.List.{List}
 use Prim.Native.Nat.{ℕ, _+_, _≤_}
-use lib.ListN.{length}
 use Rattle.answers.specs.Stops.{lastStop}
 use Rattle.answers.specs.Answer.{given}
-use Rattle.isa.specs.declared.Inst.{Inst}
-use Rattle.octets.specs.Bytes.{load}
-use Rattle.alu.specs.Arithmetic.{sum}
 use Rattle.state.specs.States.{state}
-use Rattle.boards.specs.Boards.{Board}
-use Rattle.access.specs.Accesses.{Done}
-use Rattle.execute.specs.Execution.{performed}
-use Rattle.fetch.specs.declared.Fetched.the-variants.{Instruction}
-use Rattle.engine.specs.Steps.{World, world, actFetched, actAt, paused, stepped, completes, ran, retired}
+use Rattle.engine.specs.Steps.{World, world, paused, stepped, completes, ran, retired}
 use Rattle.machine.specs.Entries.{stepEntry, ofStepped, runEntry, ofRan}
-use Rattle.promises_codes.specs.Instructions.{encodes, expands}
 use Rattle.promises.specs.Refusals.{machineRows}
 
 -- no row of the table holds
@@ -34,25 +24,6 @@ abbrev pub RunIsManual : Type 0
 RunIsManual =
     (b : ℕ) (w : World) → Accepted w
     → (ofRan (runEntry b w .answer) ≡ given (ran b w .st, retired b w)) × (runEntry b w .lent ≡ ran b w .board)
-
--- what the instruction i of len bytes at pc does, and what the bytes at pc do, with the registers x on the board b
-abbrev pub effectOf : Inst → ℕ → ℕ → List ℕ → Board → Done
-effectOf i len pc x b = performed (actFetched (Instruction i len) pc x) b
-
-abbrev pub effectAt : ℕ → List ℕ → Board → Done
-effectAt pc x b = performed (actAt pc x (b .mem)) b
-
--- where memory has, at pc, a halfword that stands for i, and the memory of another board the word of i, both do what i does: once with length 2, once with 4
-abbrev pub ShortActsAsLong : Type 0
-ShortActsAsLong =
-    (i : Inst) (pc : ℕ) (x : List ℕ) (b2 b4 : Board)
-    → pc + 2 ≤ length (b2 .mem) → expands (load 2 pc (b2 .mem)) ≡ given i
-    → pc + 4 ≤ length (b4 .mem) → encodes i ≡ given (load 4 pc (b4 .mem))
-    → (effectAt pc x b2 ≡ effectOf i 2 pc x b2) × (effectAt pc x b4 ≡ effectOf i 4 pc x b4)
-
--- but for its length: the length of an instruction enters only in pc plus the length
-abbrev pub LengthOnly : Type 0
-LengthOnly = (i : Inst) (m n pc : ℕ) (x : List ℕ) (b : Board) → sum pc m ≡ sum pc n → effectOf i m pc x b ≡ effectOf i n pc x b
 
 -- ---- the rules of a step and of a run
 

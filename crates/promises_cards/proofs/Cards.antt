@@ -24,7 +24,7 @@ use Rattle.engine.specs.Steps.{actFetched, asked, applied, paused, stepped, ran
 use Rattle.machine.specs.declared.Ran.{Ran}
 use Rattle.machine.specs.Entries.{runEntry}
 use Rattle.machine.proofs.Entries.{run-ends}
-use Rattle.promises_cards.specs.Cards.{cards, Claim, endOf, start, blank, image, spent}
+use Rattle.promises_cards.specs.Cards.{CardsHold, endOf, start, blank, image, spent}
 
 -- the first run stops in its fourth step and leaves word 0 burnt; the second, on that row, stops in its third
 abbrev spent-row : List ℕ
@@ -42,7 +42,7 @@ second-run =
     ap (λ f. runEntry 100 (start image f)) (ap (λ (o : Outcome Ran Board). o .lent .row) first-run ∙ stops .1)
     ∙ run-ends 3 97 (start image spent-row) (stops .2)
 
-pub cards-hold : Claim cards
+pub cards-hold : CardsHold
 unfolding decoded expanded inRange tryFor littleEndian ofLittleEndian load store placed burnt loadedFrom storedWord storedTo actOf performed fetchedWith fetched actFetched asked applied stepped ran retired allKeep decided
 cards-hold = (
   (refl, tt),

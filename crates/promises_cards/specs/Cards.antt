@@ -127,3 +127,7 @@ All (f ∷ fs) = Holds f × All fs
 abbrev pub Claim : List (ℕ × List Fact) → Type 0
 Claim [] = Unit {0}
 Claim (c ∷ cs) = All (c .1) × Claim cs
+
+-- of all twelve
+abbrev pub CardsHold : Type 0
+CardsHold = Claim cards

@@ -9,7 +9,7 @@ use lib.Seq.{drop-at}
 use Rattle.answers.specs.declared.Refusal.the-variants as R
 use Rattle.answers.specs.declared.Check.the-variants.{Passed}
 use Rattle.answers.proofs.Order.{iff-same, no-rows, then-row}
-use Rattle.answers.proofs.Entries.{determined, exactly, keeps-lent}
+use Rattle.answers.proofs.Entries.{exactly, keeps-lent}
 use Rattle.isa.specs.Registers.{reg}
 use Rattle.isa.specs.Decoding.{decoded}
 use Rattle.isa.specs.Rvc.{expanded}
@@ -31,7 +31,7 @@ use Rattle.listing.specs.Listing.{shownOf, shownAt, lineOf, lineAt, linesFrom, 
 use Rattle.listing.proofs.Lines.{line-none}
 use Rattle.listing.proofs.Pages as Pages
 use Rattle.promises_codes.proofs.Readings.{legal-is}
-use Rattle.promises_text.specs.Text.{WordTextRefuses, HalfTextRefuses, TextRefuses, TextKeeps, WordText, HalfText, InstText, longestText, TextFits, longestShortText, ShortTextFits, TextDetermines, ShortIsNotLong, pages, PagesAreListing, PageMoves, PageFits, EmptyListing, LongListing, OddListing, PaperListing, PageKeeps, TextDetermined, WroteDetermined}
+use Rattle.promises_text.specs.Text.{WordTextRefuses, HalfTextRefuses, TextRefuses, TextKeeps, WordText, HalfText, InstText, longestText, TextFits, longestShortText, ShortTextFits, TextDetermines, ShortIsNotLong, pages, PagesAreListing, PageMoves, PageFits, EmptyListing, LongListing, OddListing, PaperListing, PageKeeps, WroteDetermined}
 
 -- ---- refusals
 
@@ -139,9 +139,6 @@ unfolding listing linesFrom lineAt lineOf shownAt shownOf fetched fetchedWith he
 paper-listing = refl
 
 -- ---- no choice
-
-pub text-determined : TextDetermined
-text-determined room = (λ w. determined _, λ h. determined _, λ i. determined _, λ image a. determined _)
 
 pub wrote-determined : WroteDetermined
 wrote-determined room at text r₁ r₂ m n v w = (v .room ∙ sym (w .room), v .next ∙ sym (w .next))

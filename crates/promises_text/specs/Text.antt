@@ -6,7 +6,7 @@ use Prim.Native.Nat.{ℕ, _-_, _^_, _≤_, _<_}
 use lib.ListN.{length, drop}
 use Rattle.answers.specs.Answer.{given, refusedWith}
 use Rattle.answers.specs.Outcomes.{Outcome}
-use Rattle.answers.specs.Entries.{Refuses, Keeps, Determines}
+use Rattle.answers.specs.Entries.{Refuses, Keeps}
 use Rattle.answers.specs.Order.{refusal, noRefusal}
 use Rattle.ascii.specs.Ascii.{bytes}
 use Rattle.ascii.specs.Rooms.{Wrote}
@@ -135,17 +135,8 @@ PaperListing =
     listing (0x9D ∷ 0x42 ∷ 0x37 ∷ 0x03 ∷ 0x00 ∷ 0x80 ∷ 0x23 ∷ 0x20 ∷ 0x53 ∷ 0x00 ∷ 0x73 ∷ 0x00 ∷ 0x00 ∷ 0x00 ∷ [])
     ≡ bytes "00000000 429d c:addi x5,x0,7\n00000002 80000337 lui x6,524288\n00000006 00532023 sw x5,0(x6)\n0000000a 00000073 ecall\n"
 
--- ---- the contracts leave no choice: any two outcomes that one allows are the same
+-- ---- the contract of a writer leaves no choice: any two outcomes that it allows are the same
 
-abbrev pub TextDetermined : Type 0
-TextDetermined =
-    (room : List ℕ)
-    → ((w : ℕ) → Determines (wordEntry w room))
-    × ((h : ℕ) → Determines (halfEntry h room))
-    × ((i : Inst) → Determines (instEntry i room))
-    × ((image : List ℕ) (a : ℕ) → Determines (listEntry image a room))
-
--- a writer's
 abbrev pub WroteDetermined : Type 0
 WroteDetermined =
     (room : List ℕ) (at : ℕ) (text r₁ r₂ : List ℕ) (m n : ℕ) → Wrote room at text r₁ m → Wrote room at text r₂ n → (r₁ ≡ r₂) × (m ≡ n)

@@ -31,5 +31,6 @@ pub fn run_slot(mem: &mut [u8], row: &mut [u8], slots: &mut [u8], k: usize, budg
     let s = back.state;
     let t = run_steps(s, mem, row, budget);
     put(slots, k, t);
-    Resumed::Retired(t.count - s.count)
+    let retired = t.count - s.count;
+    Resumed::Retired(retired)
 }

@@ -2,6 +2,7 @@
 //! its own seed, so that it is the same for the same seed and a difference can be replayed.
 #![forbid(unsafe_code)]
 
+mod cuts;
 mod lent;
 mod options;
 mod program;

@@ -1,7 +1,8 @@
-//! Steps and runs: one operation on hostile values, walks, whole runs, runs cut into pieces.
+//! Steps and runs: one operation on hostile values, walks, whole runs.
 
+use crate::cuts::cut_run;
 use crate::scene::{self, compare, Entry, Scene};
-use crate::tally::{Check, Difference, Tally};
+use crate::tally::{Check, Tally};
 use phuyurik::{Stop, RECORD};
 use second::op;
 use testing::Random;
@@ -33,7 +34,8 @@ pub fn round(tally: &mut Tally, random: &mut Random) -> Check {
     for _ in 0..40 {
         walk(tally, random)?;
         whole_run(tally, random)?;
-        cut_run(tally, random)?;
+        let scene = sound_or_calm(random);
+        cut_run(tally, random, &scene)?;
         slots(tally, random)?;
     }
     Ok(())
@@ -121,75 +123,6 @@ fn whole_run(tally: &mut Tally, random: &mut Random) -> Check {
         }
     }
     Ok(())
-}
-
-/// The second emulator's whole run against the proved one's in pieces, through a slot.
-fn cut_run(tally: &mut Tally, random: &mut Random) -> Check {
-    let scene = sound_or_calm(random);
-    let (mut whole, mut pieces) = (scene.clone(), scene.clone());
-    let answer = second::run(
-        &mut whole.state,
-        &mut whole.mem,
-        &mut whole.row,
-        scene.budget,
-    );
-    let written = second::write_slot(&mut whole.slots, scene.k, &whole.state);
-    written.map_err(|refusal| problem("write_slot", refusal))?;
-    let mut retired = 0;
-    for budget in cuts(random, scene.budget) {
-        retired += if random.once_in(2) {
-            piece_in_slot(&mut pieces, budget)?
-        } else {
-            piece_by_hand(&mut pieces, budget)?
-        };
-    }
-    let call = || format!("a run of {} in pieces: {:x?}", scene.budget, scene.state);
-    tally.steps += retired;
-    tally.same(call, Ok(retired), answer)?;
-    tally.same_bytes(call, &pieces.mem, &whole.mem)?;
-    tally.same_bytes(call, &pieces.row, &whole.row)?;
-    tally.same_bytes(call, &pieces.slots, &whole.slots)
-}
-
-/// Budgets whose sum is the given one, zeros among them.
-fn cuts(random: &mut Random, budget: u64) -> Vec<u64> {
-    let mut pieces = Vec::new();
-    let mut left = budget;
-    for _ in 0..random.length(0, 6) {
-        let piece = if random.once_in(4) {
-            0
-        } else {
-            random.below(left + 1)
-        };
-        pieces.push(piece);
-        left -= piece;
-    }
-    pieces.push(left);
-    pieces
-}
-
-fn piece_in_slot(scene: &mut Scene, budget: u64) -> Result<u64, Difference> {
-    let (mem, row, slots) = (&mut scene.mem, &mut scene.row, &mut scene.slots);
-    let answer = phuyurik::run_slot(mem, row, slots, scene.k, budget);
-    answer.map_err(|refusal| problem("run_slot", refusal.number()))
-}
-
-/// As `run_slot`: reads the slot, runs, writes the slot.
-fn piece_by_hand(scene: &mut Scene, budget: u64) -> Result<u64, Difference> {
-    let by_hand = |scene: &mut Scene| {
-        let mut state = phuyurik::read_slot(&scene.slots, scene.k)?;
-        let retired = phuyurik::run(&mut state, &mut scene.mem, &mut scene.row, budget)?;
-        phuyurik::write_slot(&mut scene.slots, scene.k, &state)?;
-        Ok(retired)
-    };
-    let answer: Result<u64, phuyurik::Refusal> = by_hand(scene);
-    answer.map_err(|refusal| problem("a piece", refusal.number()))
-}
-
-fn problem(what: &str, refusal: u32) -> Difference {
-    Difference(format!(
-        "{what} of a sound scene was refused with {refusal}"
-    ))
 }
 
 /// Slots read, written and run, with states and buffers of every kind.

@@ -21,8 +21,8 @@ run-steps-requires c κs =
     let at = tested .before .before .before .before .before .args in
     board-accepted (board (at .mem .now) (at .row .now)) (stateChecked (at .s)) (sym (tested .check .ensures) ∙ c .before .before .enum-told .given .1) .0 .row .0
 
-sub-t19 : tie.Need-sub-t19
-sub-t19 c =
+sub-retired : tie.Need-sub-retired
+sub-retired c =
     let run = c .before .before .before .before .before .before in
     let tested = run .before .before .before .before .before in
     let at = tested .before .before .before .before .before .args in
@@ -50,7 +50,7 @@ run-spec =
     returns
     (λ c. search needs)
     run-steps-requires
-    sub-t19
+    sub-retired
     (λ c. search needs)
     (λ c. search needs)
     returns-2)

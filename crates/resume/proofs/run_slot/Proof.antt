@@ -43,8 +43,8 @@ put-requires c κs =
     let at = lent .before .before .before .before .before .before .args in
     omega (arith, slot-was-there (at .k) (at .slots .now) (read .read-slot .ensures) (sound .enum-told2 .given .1))
 
-sub-t26 : tie.Need-sub-t26
-sub-t26 c =
+sub-retired : tie.Need-sub-retired
+sub-retired c =
     let run = c .before .before .before .before .before .before .before .before .before .before in
     let read = run .before .before .before .before .before .before in
     let lent = read .before .before .before .before in
@@ -82,7 +82,7 @@ run-slot-spec =
     (λ c. search needs)
     run-steps-requires
     put-requires
-    sub-t26
+    sub-retired
     (λ c. search needs)
     (λ c. search needs)
     (λ c. search needs)

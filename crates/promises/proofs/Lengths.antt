@@ -1,0 +1,110 @@
+-- Both forms of an instruction are fetched as that instruction; what it asks for has its length only where the table says, and no access looks at where the next instruction is.
+-- Assumes nothing.
+use mathlib.Core.Path.{_≡_, refl, sym, ap, _∙_}
+use mathlib.Core.Bool.{Bool, true, false, cond, not}
+use mathlib.Core.List.{List}
+use Prim.Native.Nat.{ℕ, _+_, _%_}
+use native.Mathlib.Omega.{arith}
+use lib.Dec.{eqb}
+use borrow.Author.Tests.{le-leb}
+use Rattle.answers.specs.Outcomes.{Outcome, outcome}
+use Rattle.answers.specs.declared.Stop.the-variants.{AlreadyBurnt}
+use Rattle.answers.proofs.Order.{apart}
+use Rattle.isa.specs.declared.Reg.{Reg}
+use Rattle.isa.specs.declared.Inst.the-variants.{Lui, Auipc, Jal, Jalr, Branch, Load, Store, Imm, Shift, Arith, Fence, Ecall, Ebreak, MulDiv}
+use Rattle.isa.specs.declared.LoadOp.{LoadOp}
+use Rattle.isa.specs.declared.StoreOp.{StoreOp}
+use Rattle.isa.specs.Registers.{x0}
+use Rattle.isa.specs.Decoding.{decoded}
+use Rattle.isa.specs.Rvc.{expanded}
+use Rattle.octets.specs.Bytes.{load}
+use Rattle.octets.proofs.Bytes.{load-add}
+use Rattle.place.specs.declared.Place.{Place}
+use Rattle.place.specs.declared.Place.the-variants.{Memory, Fuse, Misaligned, Outside}
+use Rattle.fuses.specs.Row.{markAt, burnt}
+use Rattle.alu.specs.Arithmetic.{sum, takes}
+use Rattle.state.specs.States.{registerOf}
+use Rattle.boards.specs.Boards.{Board, board}
+use Rattle.access.specs.declared.Effect.{Effect}
+use Rattle.access.specs.declared.Effect.the-variants.{Next, Halt}
+use Rattle.access.specs.Accesses.{Done, loadPlace, loadedFrom, storePlace, onTo, storedWord, storedTo}
+use Rattle.execute.specs.Execution.{actOf, performed}
+use Rattle.fetch.proofs.Laws.{fetch-short, fetch-long}
+use Rattle.engine.specs.Steps.{actFetched}
+use Rattle.promises_codes.proofs.Readings.{legal-is}
+use Rattle.promises_codes.proofs.Instructions.{other-width, decode-of-encode, legal-long}
+use Rattle.promises.specs.Lengths.{Shows, endingAt, LengthOnly, ShortActsAsLong}
+
+-- ---- accesses
+
+abbrev nextAlone : Shows
+nextAlone = record { value = false; next = true }
+
+abbrev onward : ℕ → Done → Done
+onward to d = outcome (endingAt to nextAlone (d .answer)) (d .lent)
+
+load-onward : (p : Place) (o : LoadOp) (rd : Reg) (m n : ℕ) (b : Board) → loadedFrom p o rd m b ≡ endingAt m nextAlone (loadedFrom p o rd n b)
+unfolding loadedFrom
+load-onward (Memory i) o rd m n b = refl
+load-onward (Fuse k) o rd m n b = refl
+load-onward Misaligned o rd m n b = refl
+load-onward Outside o rd m n b = refl
+
+store-onward : (p : Place) (o : StoreOp) (v m n : ℕ) (b : Board) → storedTo p o v m b ≡ onward m (storedTo p o v n b)
+unfolding storedTo storedWord
+store-onward (Memory i) o v m n b = refl
+store-onward (Fuse k) o v m n b = go (eqb (markAt k (b .row)) 0)
+  where
+    word : Bool → ℕ → Outcome Effect (List ℕ)
+    word t to = cond t (outcome (onTo to) (burnt k v (b .row))) (outcome (Halt AlreadyBurnt) (b .row))
+
+    done : Bool → ℕ → Done
+    done t to = outcome (word t to .answer) (board (b .mem) (word t to .lent))
+
+    go : (t : Bool) → done t m ≡ onward m (done t n)
+    go true = refl
+    go false = refl
+store-onward Misaligned o v m n b = refl
+store-onward Outside o v m n b = refl
+
+branch-onward : (t : Bool) (to m n : ℕ) (b : Board)
+    → outcome (Next x0 0 (cond t to m)) b ≡ outcome (endingAt m (record { value = false; next = not t }) (Next x0 0 (cond t to n))) b
+branch-onward true to m n b = refl
+branch-onward false to m n b = refl
+
+-- ---- the promises
+
+pub length-only : LengthOnly
+unfolding actFetched actOf performed
+length-only (Lui rd field) m n pc x b = refl
+length-only (Auipc rd field) m n pc x b = refl
+length-only (Jal rd imm) m n pc x b = refl
+length-only (Jalr rd rs1 imm) m n pc x b = refl
+length-only (Branch o rs1 rs2 imm) m n pc x b = branch-onward (takes o (registerOf x rs1) (registerOf x rs2)) (sum pc imm) (sum pc m) (sum pc n) b
+length-only (Load o rd rs1 imm) m n pc x b =
+    ap (λ e. outcome e b) (load-onward (loadPlace o (sum (registerOf x rs1) imm) b) o rd (sum pc m) (sum pc n) b)
+length-only (Store o rs1 rs2 imm) m n pc x b =
+    store-onward (storePlace o (sum (registerOf x rs1) imm) b) o (registerOf x rs2) (sum pc m) (sum pc n) b
+length-only (Imm o rd rs1 imm) m n pc x b = refl
+length-only (Shift o rd rs1 shamt) m n pc x b = refl
+length-only (Arith o rd rs1 rs2) m n pc x b = refl
+length-only (Fence rd rs1 field) m n pc x b = refl
+length-only Ecall m n pc x b = refl
+length-only Ebreak m n pc x b = refl
+length-only (MulDiv o rd rs1 rs2) m n pc x b = refl
+
+pub short-acts-as-long : ShortActsAsLong
+short-acts-as-long i pc x m2 m4 b l2 short l4 long =
+    let half = load 2 pc m2 in
+    let word = load 4 pc m4 in
+    let d = decode-of-encode i word long in
+    let low = legal-long word i d in
+    let e = load-add 2 2 pc m4 (omega arith) in
+    let is-short : half % 4 ≡ 3 → ⊥ = λ t. apart (sym short ∙ other-width .1 half t) in
+    rw (
+      fetch-short pc m2 l2 refl (λ t. is-short (omega arith)) is-short (sym (legal-is (expanded half) i short)),
+      fetch-long pc m4 (omega arith) refl (λ t. omega arith) (omega arith),
+      le-leb (pc + 4) _ l4,
+      legal-is (decoded word) i d,
+    )
+    (length-only i 2 4 pc x b)

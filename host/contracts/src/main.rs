@@ -1,0 +1,4 @@
+//! Prints docs/CONTRACTS.md.
+fn main() {
+    print!("{}", contracts::document());
+}
