@@ -1,12 +1,15 @@
 /* Phuyurik: a proved emulator for trim recipes, small RV32IMC programs that can touch only their own
  * memory and the 64 one-time words of the part in the socket.
  *
- * Every function returns 0, or the number of a refusal. A refusal says nothing else: every buffer and
- * every place that was lent to the call is as it was. Where more than one refusal applies, the lowest
- * number is given. No input is forbidden, but for what C itself asks: a pointer points to as many
- * bytes as its size says, is not NULL even where that size is 0, and what a call may write overlaps
- * nothing else that the call is given. No function keeps a pointer, allocates, or has state of its
- * own, so calls on different buffers may run at the same time.
+ * Every function that can refuse returns PHUYURIK_ACCEPTED, which is 0, or a refusal. A refusal says
+ * nothing else: every buffer and every place that was lent to the call is as it was. Where more than
+ * one refusal applies, the lowest number is given. No input is forbidden, but for what C itself asks:
+ * a pointer points to as many bytes as its size says (where that is 0 it may be NULL), a place for a
+ * value is there, and what a call may write overlaps nothing else that the call is given. No function
+ * keeps a pointer, allocates, or has state of its own, so calls on different buffers may run at the
+ * same time.
+ *
+ * Buffers come in one order in every call: state, memory, row, slots.
  */
 #ifndef PHUYURIK_H
 #define PHUYURIK_H
@@ -17,22 +20,45 @@
 #if SIZE_MAX != UINT64_MAX
 #error "the library's sizes and slot numbers have 64 bits, and so must size_t"
 #endif
+#if !defined(__BYTE_ORDER__) || __BYTE_ORDER__ != __ORDER_LITTLE_ENDIAN__
+#error "a state in memory is its record, which is little-endian, and so must the machine be"
+#endif
 
 #ifdef __cplusplus
 extern "C" {
+#define PHUYURIK_ASSERT(what, words) static_assert(what, words)
+#else
+#define PHUYURIK_ASSERT(what, words) _Static_assert(what, words)
 #endif
+
+/* ---- the version
+ *
+ * The header's, and the archive's as the same number: major * 65536 + minor * 256 + patch. A program
+ * compares the two at its start:
+ *
+ *     if (phuyurik_version() != PHUYURIK_VERSION) ...
+ */
+
+#define PHUYURIK_VERSION_MAJOR 0
+#define PHUYURIK_VERSION_MINOR 2
+#define PHUYURIK_VERSION_PATCH 0
+#define PHUYURIK_VERSION                                                                                \
+    (PHUYURIK_VERSION_MAJOR * 65536u + PHUYURIK_VERSION_MINOR * 256u + PHUYURIK_VERSION_PATCH)
+
+uint32_t phuyurik_version(void);
 
 /* ---- sizes */
 
 #define PHUYURIK_MEMORY_MAX 65536 /* main memory has 0 to this many bytes */
 #define PHUYURIK_ROW_SIZE 512     /* a fuse row: 64 records of 8 bytes */
-#define PHUYURIK_RECORD_SIZE 144  /* a state's record in a slot */
+#define PHUYURIK_WORDS 64         /* the words of a row */
+#define PHUYURIK_RECORD_SIZE 144  /* a state, and its record in a slot */
 #define PHUYURIK_ROOM_MIN 24      /* a text room has at least this; less is refused with 6 */
 #define PHUYURIK_LINE_MAX 38      /* no line of a listing is longer, its newline included */
 
 /* ---- refusals */
 
-enum phuyurik_refusal {
+typedef enum phuyurik_refusal {
     PHUYURIK_ACCEPTED = 0,
     PHUYURIK_MEMORY_TOO_LONG = 1, /* memory longer than 65,536 */
     PHUYURIK_ROW_LENGTH = 2,      /* row not 512 bytes */
@@ -43,11 +69,28 @@ enum phuyurik_refusal {
     PHUYURIK_NO_INSTRUCTION = 7,  /* no legal instruction in the given bits */
     PHUYURIK_FIELD = 8,           /* a field out of range, or an odd branch or jal offset */
     PHUYURIK_NO_SHORT_FORM = 9    /* no short form */
-};
+} phuyurik_refusal;
+
+/* The words for a refusal's number; those for any other number say that it is none. */
+static inline const char *phuyurik_refusal_text(unsigned number) {
+    static const char *const texts[] = {
+        "accepted",
+        "memory longer than 65,536",
+        "row not 512 bytes",
+        "a row record breaks its rules",
+        "slot buffer not a multiple of 144, or no such slot",
+        "state malformed, or, on reading, its record's bytes 137-143 not zero",
+        "text room under 24 bytes",
+        "no legal instruction in the given bits",
+        "instruction with a field out of range, or an odd branch or jal offset",
+        "no short form",
+    };
+    return number < sizeof texts / sizeof *texts ? texts[number] : "no refusal has this number";
+}
 
 /* ---- stops */
 
-enum phuyurik_stop {
+typedef enum phuyurik_stop {
     PHUYURIK_PAUSED = 0, /* paused, can go on */
     PHUYURIK_ECALL = 1,
     PHUYURIK_EBREAK = 2,
@@ -59,20 +102,81 @@ enum phuyurik_stop {
     PHUYURIK_STORE_OUTSIDE = 8,
     PHUYURIK_ALREADY_BURNT = 9,
     PHUYURIK_COUNT_FULL = 10
-};
+} phuyurik_stop;
+
+/* The words for a stop's number; those for any other number say that it is none. */
+static inline const char *phuyurik_stop_text(unsigned number) {
+    static const char *const texts[] = {
+        "paused, can go on", "ecall",
+        "ebreak",            "illegal instruction",
+        "fetch outside",     "load misaligned",
+        "load outside",      "store misaligned",
+        "store outside",     "word already burnt",
+        "count full",
+    };
+    return number < sizeof texts / sizeof *texts ? texts[number] : "no stop has this number";
+}
 
 /* ---- instructions
  *
- * An instruction is its operation's place in this order, and its operands, 0 for each that it does
- * not have: lui auipc jal jalr beq bne blt bge bltu bgeu lb lh lw lbu lhu sb sh sw addi slti sltiu
- * xori ori andi slli srli srai add sub sll slt sltu xor srl sra or and fence ecall ebreak mul mulh
- * mulhsu mulhu div divu rem remu. Immediates and offsets are sign-extended to 32 bits; lui and auipc
- * have the 20-bit field, a shift its amount, fence its 12-bit field. Numbers of no instruction (an
- * operation above 47, a register above 31, an operand that the operation does not have) are refused
- * with 8. */
+ * An instruction is its operation, and its operands, 0 for each that it does not have. Immediates and
+ * offsets are sign-extended to 32 bits; lui and auipc have the 20-bit field, a shift its amount, fence
+ * its 12-bit field. Numbers of no instruction (an operation above 47, a register above 31, an operand
+ * that the operation does not have) are refused with 8. */
+
+typedef enum phuyurik_operation {
+    PHUYURIK_OP_LUI = 0,
+    PHUYURIK_OP_AUIPC = 1,
+    PHUYURIK_OP_JAL = 2,
+    PHUYURIK_OP_JALR = 3,
+    PHUYURIK_OP_BEQ = 4,
+    PHUYURIK_OP_BNE = 5,
+    PHUYURIK_OP_BLT = 6,
+    PHUYURIK_OP_BGE = 7,
+    PHUYURIK_OP_BLTU = 8,
+    PHUYURIK_OP_BGEU = 9,
+    PHUYURIK_OP_LB = 10,
+    PHUYURIK_OP_LH = 11,
+    PHUYURIK_OP_LW = 12,
+    PHUYURIK_OP_LBU = 13,
+    PHUYURIK_OP_LHU = 14,
+    PHUYURIK_OP_SB = 15,
+    PHUYURIK_OP_SH = 16,
+    PHUYURIK_OP_SW = 17,
+    PHUYURIK_OP_ADDI = 18,
+    PHUYURIK_OP_SLTI = 19,
+    PHUYURIK_OP_SLTIU = 20,
+    PHUYURIK_OP_XORI = 21,
+    PHUYURIK_OP_ORI = 22,
+    PHUYURIK_OP_ANDI = 23,
+    PHUYURIK_OP_SLLI = 24,
+    PHUYURIK_OP_SRLI = 25,
+    PHUYURIK_OP_SRAI = 26,
+    PHUYURIK_OP_ADD = 27,
+    PHUYURIK_OP_SUB = 28,
+    PHUYURIK_OP_SLL = 29,
+    PHUYURIK_OP_SLT = 30,
+    PHUYURIK_OP_SLTU = 31,
+    PHUYURIK_OP_XOR = 32,
+    PHUYURIK_OP_SRL = 33,
+    PHUYURIK_OP_SRA = 34,
+    PHUYURIK_OP_OR = 35,
+    PHUYURIK_OP_AND = 36,
+    PHUYURIK_OP_FENCE = 37,
+    PHUYURIK_OP_ECALL = 38,
+    PHUYURIK_OP_EBREAK = 39,
+    PHUYURIK_OP_MUL = 40,
+    PHUYURIK_OP_MULH = 41,
+    PHUYURIK_OP_MULHSU = 42,
+    PHUYURIK_OP_MULHU = 43,
+    PHUYURIK_OP_DIV = 44,
+    PHUYURIK_OP_DIVU = 45,
+    PHUYURIK_OP_REM = 46,
+    PHUYURIK_OP_REMU = 47
+} phuyurik_operation;
 
 typedef struct phuyurik_inst {
-    uint32_t operation;
+    uint32_t operation; /* a phuyurik_operation */
     uint32_t rd;
     uint32_t rs1;
     uint32_t rs2;
@@ -81,19 +185,19 @@ typedef struct phuyurik_inst {
 
 /* The format class of 32 bits, by bits 6 to 2 and funct3 alone: 0 none, 1 R, 2 I, 3 S, 4 B, 5 U, 6 J.
  * Never refuses. */
-uint32_t phuyurik_chart(uint32_t bits, uint8_t *format);
+phuyurik_refusal phuyurik_chart(uint32_t bits, uint8_t *format);
 
 /* What 32 bits mean. Refuses with 7. */
-uint32_t phuyurik_decode(uint32_t bits, phuyurik_inst *inst);
+phuyurik_refusal phuyurik_decode(uint32_t bits, phuyurik_inst *inst);
 
 /* What 16 bits mean: the instruction that they stand for. Refuses with 7. */
-uint32_t phuyurik_expand(uint16_t bits, phuyurik_inst *inst);
+phuyurik_refusal phuyurik_expand(uint16_t bits, phuyurik_inst *inst);
 
 /* The word of an instruction. Refuses with 8. */
-uint32_t phuyurik_encode(const phuyurik_inst *inst, uint32_t *bits);
+phuyurik_refusal phuyurik_encode(const phuyurik_inst *inst, uint32_t *bits);
 
 /* The smallest halfword, as a number, that stands for an instruction. Refuses with 8, then 9. */
-uint32_t phuyurik_shorten(const phuyurik_inst *inst, uint16_t *bits);
+phuyurik_refusal phuyurik_shorten(const phuyurik_inst *inst, uint16_t *bits);
 
 /* ---- texts
  *
@@ -101,56 +205,105 @@ uint32_t phuyurik_shorten(const phuyurik_inst *inst, uint16_t *bits);
  * Bytes of the room after the text stay. */
 
 /* The text of 32 bits. Refuses with 6, then 7. */
-uint32_t phuyurik_text_of_word(uint32_t bits, uint8_t *room, size_t room_size, size_t *length);
+phuyurik_refusal phuyurik_text_of_word(uint32_t bits, uint8_t *room, size_t room_size, size_t *length);
 
 /* The text of 16 bits: that of what they stand for, with c: in front. Refuses with 6, then 7. */
-uint32_t phuyurik_text_of_half(uint16_t bits, uint8_t *room, size_t room_size, size_t *length);
+phuyurik_refusal phuyurik_text_of_half(uint16_t bits, uint8_t *room, size_t room_size, size_t *length);
 
 /* The text of an instruction. Refuses with 6, then 8. */
-uint32_t phuyurik_text_of(const phuyurik_inst *inst, uint8_t *room, size_t room_size, size_t *length);
+phuyurik_refusal phuyurik_text_of(const phuyurik_inst *inst, uint8_t *room, size_t room_size,
+                                  size_t *length);
 
 /* Whole lines of an image's listing, from the address `from` on, while the room has place for the
  * longest: their bytes at the front of the room, how many into *length, and the address after the
- * last line into *next. To list an image, start at 0 and go on at *next until it is image_size; the
- * room has 38 bytes or more, else no line fits. An image over 65,536 bytes has the one line
- * `too long`. Never refuses. */
-uint32_t phuyurik_list(const uint8_t *image, size_t image_size, size_t from, uint8_t *room,
-                       size_t room_size, size_t *length, size_t *next);
+ * last line into *next. At the image's end, and in a room under PHUYURIK_LINE_MAX bytes, there is no
+ * line, and *length is 0: so this ends for every image and every room, and lists all of the image
+ * where the room has PHUYURIK_LINE_MAX bytes or more:
+ *
+ *     for (from = 0;; from = next) {
+ *         phuyurik_list(image, image_size, from, room, sizeof room, &length, &next);
+ *         if (length == 0) break;
+ *         fwrite(room, 1, length, stdout);
+ *     }
+ *
+ * An image over 65,536 bytes has the one line `too long`. Never refuses. */
+phuyurik_refusal phuyurik_list(const uint8_t *image, size_t image_size, size_t from, uint8_t *room,
+                               size_t room_size, size_t *length, size_t *next);
+
+/* ---- states
+ *
+ * A state is pc, x1 to x31, the retired count and a stop number. Its bytes in memory are those of its
+ * record in a slot. The fresh state is all zero: `phuyurik_state state = {0};` in C, `{}` in C++. A
+ * state with an odd pc, a stop number above 10 or a `zero` that is not zero is malformed. */
+
+typedef struct phuyurik_state {
+    uint32_t pc;
+    uint32_t x[31]; /* x[0] is x1: phuyurik_reg reads by number */
+    uint64_t count;
+    uint8_t stop; /* a phuyurik_stop */
+    uint8_t zero[7];
+} phuyurik_state;
+
+PHUYURIK_ASSERT(sizeof(phuyurik_state) == PHUYURIK_RECORD_SIZE, "a state is its record");
+PHUYURIK_ASSERT(offsetof(phuyurik_state, x) == 4, "x1 stands at byte 4");
+PHUYURIK_ASSERT(offsetof(phuyurik_state, count) == 128, "the count stands at byte 128");
+PHUYURIK_ASSERT(offsetof(phuyurik_state, stop) == 136, "the stop number stands at byte 136");
+
+/* Register n, 0 to 31, of a state; x0 is 0. Of a number above 31 it is 0, too. */
+static inline uint32_t phuyurik_reg(const phuyurik_state *state, unsigned n) {
+    return n >= 1 && n <= 31 ? state->x[n - 1] : 0;
+}
+
+/* ---- rows
+ *
+ * Word k of a row is bytes 8k to 8k + 7: its value in the first four, little-endian, its mark in the
+ * fifth (0 blank, 1 burnt), the rest zero. A blank row is 512 zero bytes. */
+
+/* Whether word k of a row is burnt. k is 0 to 63; any other word is not. */
+static inline int phuyurik_is_burnt(const uint8_t *row, unsigned k) {
+    return k < PHUYURIK_WORDS && row[8 * k + 4] == 1;
+}
+
+/* The value of word k of a row, 0 if it is blank. k is 0 to 63; the value of any other is 0. */
+static inline uint32_t phuyurik_word(const uint8_t *row, unsigned k) {
+    if (k >= PHUYURIK_WORDS) return 0;
+    row += 8 * k;
+    return (uint32_t)row[0] | (uint32_t)row[1] << 8 | (uint32_t)row[2] << 16 | (uint32_t)row[3] << 24;
+}
 
 /* ---- steps and runs
  *
- * mem is main memory, at address 0. row is the fuse row: word k is bytes 8k to 8k + 7, its value in
- * the first four, little-endian, its mark in the fifth (0 blank, 1 burnt), the rest zero. A blank row
- * is 512 zero bytes. A state is pc, x1 to x31 (x[0] is x1), the retired count and a stop number; the
- * fresh state is all zero. A state with an odd pc or a stop number above 10 is malformed. */
+ * mem is main memory, at address 0; row is the fuse row of the part. */
 
 /* One step; a state that has stopped stays as it is. Refuses with 1, 2, 3, 5. */
-uint32_t phuyurik_step(uint32_t *pc, uint32_t x[31], uint64_t *count, uint8_t *stop, uint8_t *mem,
-                       size_t mem_size, uint8_t *row, size_t row_size);
+phuyurik_refusal phuyurik_step(phuyurik_state *state, uint8_t *mem, size_t mem_size, uint8_t *row,
+                               size_t row_size);
 
 /* Steps while the state is paused and fewer than `budget` have retired; the number retired goes into
  * *retired. Refuses with 1, 2, 3, 5. */
-uint32_t phuyurik_run(uint32_t *pc, uint32_t x[31], uint64_t *count, uint8_t *stop, uint8_t *mem,
-                      size_t mem_size, uint8_t *row, size_t row_size, uint64_t budget,
-                      uint64_t *retired);
+phuyurik_refusal phuyurik_run(phuyurik_state *state, uint8_t *mem, size_t mem_size, uint8_t *row,
+                              size_t row_size, uint64_t budget, uint64_t *retired);
 
 /* ---- slots
  *
- * slots is a buffer of records of 144 bytes, one after the other: bytes 0-3 pc, 4-127 x1 to x31,
+ * slots is a buffer of records, one after the other, with no header: bytes 0-3 pc, 4-127 x1 to x31,
  * 128-135 the retired count, 136 the stop number, 137-143 zero, all little-endian. k counts from 0. */
 
 /* A state into slot k; no other byte changes. Refuses with 4, 5. */
-uint32_t phuyurik_write_slot(uint8_t *slots, size_t slots_size, size_t k, uint32_t pc,
-                             const uint32_t x[31], uint64_t count, uint8_t stop);
+phuyurik_refusal phuyurik_write_slot(const phuyurik_state *state, uint8_t *slots, size_t slots_size,
+                                     size_t k);
 
 /* The state in slot k. Refuses with 4, 5. */
-uint32_t phuyurik_read_slot(const uint8_t *slots, size_t slots_size, size_t k, uint32_t *pc,
-                            uint32_t x[31], uint64_t *count, uint8_t *stop);
+phuyurik_refusal phuyurik_read_slot(phuyurik_state *state, const uint8_t *slots, size_t slots_size,
+                                    size_t k);
 
 /* Reads slot k, runs it as phuyurik_run does and writes it back. However a budget is cut into such
  * calls, the end is that of the whole budget. Refuses with 1, 2, 3, 4, 5. */
-uint32_t phuyurik_run_slot(uint8_t *mem, size_t mem_size, uint8_t *row, size_t row_size, uint8_t *slots,
-                           size_t slots_size, size_t k, uint64_t budget, uint64_t *retired);
+phuyurik_refusal phuyurik_run_slot(uint8_t *mem, size_t mem_size, uint8_t *row, size_t row_size,
+                                   uint8_t *slots, size_t slots_size, size_t k, uint64_t budget,
+                                   uint64_t *retired);
+
+#undef PHUYURIK_ASSERT
 
 #ifdef __cplusplus
 }

@@ -1,17 +1,14 @@
 /* Through the C interface: the paper's cards 1, 11 (also with a budget of 3) and 12, the recipe in
- * pieces through a slot, and two refusals. Valid C11 and C++17. */
+ * pieces through a slot, its listing, and two refusals. Valid C11 and C++17. */
 #include <phuyurik.h>
 
 #include <stdio.h>
 #include <string.h>
 
 struct bench {
+    phuyurik_state state;
     uint8_t memory[14];
     uint8_t row[PHUYURIK_ROW_SIZE];
-    uint32_t pc;
-    uint32_t x[31];
-    uint64_t count;
-    uint8_t stop;
 };
 
 static const uint8_t recipe[14] = {0x9D, 0x42, 0x37, 0x03, 0x00, 0x80, 0x23,
@@ -20,22 +17,18 @@ static const uint8_t recipe[14] = {0x9D, 0x42, 0x37, 0x03, 0x00, 0x80, 0x23,
 /* A new start: the recipe's memory and the fresh state. The row is the part's, and stays. */
 static void start(struct bench *b) {
     memcpy(b->memory, recipe, sizeof recipe);
-    memset(b->x, 0, sizeof b->x);
-    b->pc = 0;
-    b->count = 0;
-    b->stop = 0;
+    memset(&b->state, 0, sizeof b->state);
 }
 
 static void show(const char *name, uint64_t retired, const struct bench *b) {
-    printf("%s: %llu retired, stop %u, pc %u, word 0 %s %u\n", name, (unsigned long long)retired,
-           (unsigned)b->stop, (unsigned)b->pc, b->row[4] ? "burnt with" : "blank with",
-           (unsigned)b->row[0] | (unsigned)b->row[1] << 8 | (unsigned)b->row[2] << 16 |
-               (unsigned)b->row[3] << 24);
+    printf("%s: %llu retired, stop %u, %s, pc %u, word 0 %s %u\n", name, (unsigned long long)retired,
+           (unsigned)b->state.stop, phuyurik_stop_text(b->state.stop), (unsigned)b->state.pc,
+           phuyurik_is_burnt(b->row, 0) ? "burnt with" : "blank with",
+           (unsigned)phuyurik_word(b->row, 0));
 }
 
-static uint32_t run(struct bench *b, uint64_t budget, uint64_t *retired) {
-    return phuyurik_run(&b->pc, b->x, &b->count, &b->stop, b->memory, sizeof b->memory, b->row,
-                        sizeof b->row, budget, retired);
+static phuyurik_refusal run(struct bench *b, uint64_t budget, uint64_t *retired) {
+    return phuyurik_run(&b->state, b->memory, sizeof b->memory, b->row, sizeof b->row, budget, retired);
 }
 
 /* Card 11: on a blank row, with a budget. */
@@ -57,7 +50,7 @@ static int card_12(struct bench *b) {
     return 0;
 }
 
-/* The same run, a step at a time through a slot. */
+/* The same run, a step at a time through a slot; x5 then has the 7 that was burnt. */
 static int in_pieces(struct bench *b) {
     uint8_t slots[2 * PHUYURIK_RECORD_SIZE] = {0};
     uint64_t retired = 0;
@@ -65,6 +58,7 @@ static int in_pieces(struct bench *b) {
     int piece;
     memset(b->row, 0, sizeof b->row);
     start(b);
+    if (phuyurik_write_slot(&b->state, slots, sizeof slots, 1)) return 1;
     for (piece = 0; piece < 5; piece++) {
         if (phuyurik_run_slot(b->memory, sizeof b->memory, b->row, sizeof b->row, slots, sizeof slots,
                               1, 1, &retired) != PHUYURIK_ACCEPTED) {
@@ -72,32 +66,46 @@ static int in_pieces(struct bench *b) {
         }
         all += retired;
     }
-    if (phuyurik_read_slot(slots, sizeof slots, 1, &b->pc, b->x, &b->count, &b->stop)) return 1;
+    if (phuyurik_read_slot(&b->state, slots, sizeof slots, 1)) return 1;
     show("in pieces", all, b);
+    printf("x5 is %u\n", (unsigned)phuyurik_reg(&b->state, 5));
     return 0;
 }
 
+/* A listing, a page at a time: it ends for every image and every room. */
+static void list(const uint8_t *image, size_t image_size) {
+    uint8_t room[2 * PHUYURIK_LINE_MAX];
+    size_t from, length, next;
+    for (from = 0;; from = next) {
+        phuyurik_list(image, image_size, from, room, sizeof room, &length, &next);
+        if (length == 0) break;
+        fwrite(room, 1, length, stdout);
+    }
+}
+
 /* Refusals leave everything as it was: no slot 2, and a room of 23 bytes. */
-static int refusals(struct bench *b) {
+static void refusals(struct bench *b) {
     uint8_t slots[2 * PHUYURIK_RECORD_SIZE] = {0};
     uint8_t room[23];
     uint64_t retired = 77;
     size_t length = 77;
-    uint32_t slot;
-    uint32_t text;
-    slot = phuyurik_run_slot(b->memory, sizeof b->memory, b->row, sizeof b->row, slots, sizeof slots, 2,
-                             1, &retired);
-    text = phuyurik_text_of_word(0x00A00513, room, sizeof room, &length);
+    phuyurik_refusal slot = phuyurik_run_slot(b->memory, sizeof b->memory, b->row, sizeof b->row, slots,
+                                              sizeof slots, 2, 1, &retired);
+    phuyurik_refusal text = phuyurik_text_of_word(0x00A00513, room, sizeof room, &length);
     printf("refusals %u and %u, %llu and %zu still there\n", (unsigned)slot, (unsigned)text,
            (unsigned long long)retired, length);
-    return 0;
+    printf("%u is: %s\n", (unsigned)slot, phuyurik_refusal_text(slot));
 }
 
 int main(void) {
     struct bench b;
     uint8_t room[PHUYURIK_ROOM_MIN];
     size_t length = 0;
+    if (phuyurik_version() != PHUYURIK_VERSION) return 1;
     if (phuyurik_text_of_word(0x00A00513, room, sizeof room, &length)) return 1;
     printf("card 1: %.*s\n", (int)length, (const char *)room);
-    return card_11(&b, 100) || card_12(&b) || card_11(&b, 3) || in_pieces(&b) || refusals(&b);
+    if (card_11(&b, 100) || card_12(&b) || card_11(&b, 3) || in_pieces(&b)) return 1;
+    list(recipe, sizeof recipe);
+    refusals(&b);
+    return 0;
 }

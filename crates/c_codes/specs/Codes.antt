@@ -12,6 +12,10 @@ use Rattle.answers.specs.Outcomes.{Outcome}
 use Rattle.answers.specs.Replies.{told}
 use Rattle.calls.specs.Calls.{numbersOf}
 
+-- the version of the interface, 0.2.0: major * 65,536 + minor * 256 + patch
+abbrev pub version : ℕ
+version = 0x000200
+
 -- an instruction in the answer as its five numbers
 abbrev pub numbered : Answer Inst → Answer (List ℕ)
 numbered (given i) = given (numbersOf i)

@@ -5,7 +5,17 @@ use calls::numbers_of;
 use isa::Decoded;
 ghost use mathlib.Core.Path.{_≡_};
 ghost use Rattle.answers.specs.Outcomes.{outcome};
-ghost use Rattle.c_codes.specs.Codes.{chartCall, decodeCall, expandCall};
+ghost use Rattle.c_codes.specs.Codes.{version, chartCall, decodeCall, expandCall};
+
+const VERSION: u32 = 0x000200;
+
+// The version of this interface.
+#[no_mangle]
+pub extern "C" fn phuyurik_version() -> u32
+    ensures { λ r. ⌜ r ≡ version ⌝ }
+{
+    VERSION
+}
 
 // The class of 32 bits in the chart. Never refuses.
 #[no_mangle]

@@ -33,11 +33,11 @@ use Rattle.machine.specs.Entries.{ranTo, runGiven, noRun, runEntry, ofRan}
 use Rattle.records.specs.Records.{recordOf}
 use Rattle.records.proofs.Records.{length-record, write-back, bytes-fit}
 use Rattle.slots.specs.Slots.{slotThere, slotAt, slotSet, writeChecked, writeEntry, ofWrite, readChecked, readTo, noRead, readEntry, ofReadBack}
-use Rattle.slots.proofs.Slots.{there-fits, slot-set-at, take-before, drop-after, slot-same, slot-bytes, ReadsWell, reads-well, same-record, SlotHolds, holds-set, read-held, write-passes, check-was, state-was}
+use Rattle.slots.proofs.Slots.{there-fits, slot-set-at, take-before, drop-after, slot-same, slot-bytes, ReadsWell, reads-well, same-record, SlotHolds, holds-set, read-held, write-passes, check-was, state-was, one-slot-there, one-slot-at, one-slot-set}
 use Rattle.resume.specs.declared.Resumed.{Resumed}
 use Rattle.resume.specs.declared.Resumed.the-variants as A
 use Rattle.resume.specs.Resuming.{Bench, bench, slotWorld, benchLeft, resumeChecked, resumeGiven, resumeEntry, ofResumed}
-use Rattle.promises.specs.Cuts.{Piece, SlotsThere, leftBy, readBack, cutRun, answers, total, manual, Cut, sumAnswered, RetiredAddsUp, slotStart, slotRun, SlotRunIsPiece, slotRuns, added, SlotRunsAddUp, SlotRunAnswers, SlotsStay, RecordOfState, WritesItsSlot}
+use Rattle.promises.specs.Cuts.{Piece, SlotsThere, leftBy, readBack, cutRun, answers, total, manual, Cut, sumAnswered, RetiredAddsUp, slotStart, slotRun, SlotRunIsPiece, slotRuns, added, SlotRunsAddUp, StateRuns, SlotRunAnswers, SlotsStay, RecordOfState, WritesItsSlot}
 use Rattle.promises.proofs.Refusals.{accepted-passes, slot-accepted-passes}
 use Rattle.promises.proofs.Steps.{no-budget, stays-stopped}
 
@@ -143,12 +143,14 @@ slot-run-answers b k h a = ap (λ c. ofResumed (resumed b k h c .answer)) (slot-
 -- ---- slot runs, one after the other
 
 -- slot k holds s: a run of it leaves the manual's steps there
-slot-goes : (b k : ℕ) (h : Bench) (s : State) → SlotHolds k s (h .slots) → Runnable (world s (h .board)) → resumeEntry b k h .lent ≡ benchLeft k (ran b (world s (h .board))) (h .slots)
+slot-goes : (b k : ℕ) (h : Bench) (s : State) → SlotHolds k s (h .slots) → Runnable (world s (h .board))
+    → resumeEntry b k h ≡ outcome (A.Retired (retired b (world s (h .board)))) (benchLeft k (ran b (world s (h .board))) (h .slots))
 unfolding decided
 slot-goes b k h s p g =
     let e = sym (read-held k s (h .slots) p (g .0 .0) (g .0 .1)) in
     let c : resumeChecked k h ≡ Passed = lendable-passes (h .board) _ (g .1 .1) ∙ check-was k (h .slots) e refl in
-    ap (λ d. resumed b k h d .lent) c ∙ ap (λ q. benchLeft k (ran b (world q (h .board))) (h .slots)) (sym (state-was k (h .slots) e refl))
+    ap (resumed b k h) c
+    ∙ ap (λ q. outcome (A.Retired (retired b (world q (h .board)))) (benchLeft k (ran b (world q (h .board))) (h .slots))) (sym (state-was k (h .slots) e refl))
 
 -- the bench h has the world v: in slot k and on its board
 abbrev Holds : ℕ → Bench → World → Type 0
@@ -164,13 +166,21 @@ slot-ends k (b ∷ bs) h s p g =
     let w : World = world s (h .board) in
     let v : World = ran b w in
     let g′ : Runnable v = runnable-ran b w g in
-    moved k (ap (slotRuns k bs) (slot-goes b k h s p g)) (ran-add b (added bs) w)
+    moved k (ap (λ o. slotRuns k bs (o .lent)) (slot-goes b k h s p g)) (ran-add b (added bs) w)
     (slot-ends k bs (benchLeft k v (h .slots)) (v .st) (holds-set k (v .st) (h .slots) (g′ .0 .0 .x-length) (p .there)) g′)
 
 pub slot-runs-add-up : SlotRunsAddUp
 slot-runs-add-up k bs w slots z a t =
     let g : Runnable w = passes-runnable w z (accepted-passes w a) in
     rw (write-passes k (w .st) slots t (g .0 .1)) (slot-ends k bs (benchLeft k w slots) (w .st) (holds-set k (w .st) slots (z .state-fits .x-length) t) g)
+
+pub state-runs : StateRuns
+state-runs b w z a =
+    let g : Runnable w = passes-runnable w z (accepted-passes w a) in
+    let r : List ℕ = recordOf (w .st) in
+    let l = length-record (w .st) (z .state-fits .x-length) in
+    slot-goes b 0 (bench (w .board) r) (w .st) (record { there = one-slot-there r l; record-held = one-slot-at r l }) g
+    ∙ ap (λ bytes. outcome (A.Retired (retired b w)) (bench (ran b w .board) bytes)) (one-slot-set r l (recordOf (ran b w .st)))
 
 -- ---- a slot as it was
 

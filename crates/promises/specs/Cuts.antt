@@ -127,6 +127,12 @@ SlotsStay =
     (b k : ℕ) (h : Bench) → AllBelow (2 ^ 8) (h .slots) → SlotAccepted k h → (b ≡ 0) ⊎ (paused (slotWorld k h) ≡ false)
     → resumeEntry b k h ≡ outcome (Retired 0) h
 
+-- a state that is lent as its record, a buffer of one slot, runs as by `run`: the number retired is answered, and the record of the last state is left
+abbrev pub StateRuns : Type 0
+StateRuns =
+    (b : ℕ) (w : World) → Sized w → Accepted w
+    → resumeEntry b 0 (bench (w .board) (recordOf (w .st))) ≡ outcome (Retired (retired b w)) (bench (ran b w .board) (recordOf (ran b w .st)))
+
 -- ---- one slot
 
 -- 144 bytes that are not malformed are the record of the state that they say

@@ -4,9 +4,9 @@ use native.Mathlib.Omega.{arith}
 use mathlib.Core.Path.{_≡_, refl, sym, ap, _∙_}
 use mathlib.Core.Bool.{Bool, true, false, not, and-eq-true-iff}
 use mathlib.Core.Logic.{_↔_, _⊎_}
-use mathlib.Core.List.{List, _++_, append-assoc}
+use mathlib.Core.List.{List, _++_, append-assoc, append-nil}
 use lib.ListN.{length, take, drop, length-append, length-take, length-drop, take-append-drop}
-use lib.Seq.{length-take-le, take-add, take-at, drop-at}
+use lib.Seq.{length-take-le, take-add, take-at, drop-at, take-all, drop-length}
 use lib.Dec.{eqb, ltb}
 use borrow.Author.Tests.{eqb-true, eqb-false, ne-eqb, ltb-true, ltb-false, le-ltb, not-false}
 use Rattle.word.specs.Bounds.{AllBelow}
@@ -67,6 +67,18 @@ slot-same k slots = rw (← (take-add (144 * k) 144 slots)) (take-append-drop (1
 
 pub slot-bytes : (k : ℕ) (slots : List ℕ) → AllBelow (2 ^ 8) slots → AllBelow (2 ^ 8) (slotAt k slots)
 slot-bytes k slots b = below-take (2 ^ 8) 144 (drop (144 * k) slots) (below-drop (2 ^ 8) (144 * k) slots b)
+
+-- ---- one record is a buffer of one slot
+
+module _ (r : List ℕ) (l : length r ≡ 144) where
+  pub one-slot-there : slotThere 0 r ≡ true
+  one-slot-there = rw l
+
+  pub one-slot-at : slotAt 0 r ≡ r
+  one-slot-at = take-all 144 r (omega (arith, l))
+
+  pub one-slot-set : (bytes : List ℕ) → slotSet 0 bytes r ≡ bytes
+  one-slot-set bytes = ap (λ rest. bytes ++ rest) (rw l at (drop-length r)) ∙ append-nil bytes
 
 -- ---- which slots are refused
 

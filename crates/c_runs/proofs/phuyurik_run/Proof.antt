@@ -1,18 +1,16 @@
--- `phuyurik_run` meets its contract: the check that the run answers decides. Assumes nothing.
-use mathlib.Core.Path.{refl}
+-- `phuyurik_run` meets its contract: what the run of the record, a buffer of one slot, answers decides. Assumes nothing.
+use mathlib.Core.Path.{ap}
 use borrow.Author.Needs.{needs}
+use Rattle.answers.specs.Replies.{called}
+use Rattle.resume.specs.Resuming.{ofResumed}
 use Rattle.c_runs.proofs.phuyurik_run.Statement.{statement}
 use Rattle.c_runs.proofs.phuyurik_run.Tie as tie
 
 returns : tie.Need-returns
-returns c =
-    let done = c .before .before .before .before .before .before .before .before in
-    rw (← (rw (done .before .before .before .state-of .ensures) at (done .run .ensures)), c .before .before .check .given .1, c .number .ensures) refl
+returns c = ap (called ofResumed _) (rw (c .before .n .given .1) at (c .before .before .before .before .before .before .before .run-slot .ensures))
 
 returns-2 : tie.Need-returns-2
-returns-2 c =
-    let done = c .before .before .before .before .before .before .before .before in
-    rw (← (rw (done .before .before .before .state-of .ensures) at (done .run .ensures)), c .before .before .enum-told .given .1) refl
+returns-2 c = rw (c .number .ensures) (ap (called ofResumed _) (rw (c .before .before .why .given .1) at (c .before .before .before .before .before .before .before .before .run-slot .ensures)))
 
 pub phuyurik-run-spec : {M : Type 1} → statement M
-phuyurik-run-spec = tie.close (tie.spec _ _ (λ c. search needs) _ (λ c. search needs) (λ c. search needs) (λ c. search needs) returns (λ c. search needs) (λ c. search needs) (λ c. search needs) returns-2)
+phuyurik-run-spec = tie.close (tie.spec _ (λ c. search needs) (λ c. search needs) _ (λ c. search needs) (λ c. search needs) (λ c. search needs) returns (λ c. search needs) (λ c. search needs) returns-2)
