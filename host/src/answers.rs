@@ -5,41 +5,76 @@ use std::fmt;
 macro_rules! numbered {
     (
         $(#[$about:meta])*
-        $name:ident: $number:ty { $($case:ident = $value:literal: $words:literal,)* }
+        $name:ident: $number:ty, a $kind:literal {
+            $($case:ident = $value:literal: $words:literal,)*
+        }
     ) => {
         $(#[$about])*
-        #[derive(Clone, Copy, Debug, PartialEq, Eq)]
+        #[non_exhaustive]
+        #[derive(Clone, Copy, Debug, PartialEq, Eq, Hash)]
         pub enum $name {
             $(#[doc = $words] $case = $value,)*
         }
 
         impl $name {
             /// All, in the order of their numbers.
+            #[doc = concat!("```\nuse phuyurik::", stringify!($name), ";\n\
+                assert!(", stringify!($name), "::ALL.is_sorted_by_key(|one| one.number()));\n```")]
             pub const ALL: &'static [$name] = &[$($name::$case,)*];
 
-            /// The paper's number.
-            pub fn number(self) -> $number {
+            /// The number that the paper and the C interface have for it; `try_from` leads back.
+            #[doc = concat!("```\nuse phuyurik::", stringify!($name), ";\n\
+                for one in ", stringify!($name), "::ALL {\n    \
+                assert_eq!(", stringify!($name), "::try_from(one.number()), Ok(*one));\n}\n```")]
+            pub const fn number(self) -> $number {
                 self as $number
             }
 
-            /// The one with this number.
-            pub fn from_number(number: $number) -> Option<$name> {
-                $name::ALL.iter().copied().find(|one| one.number() == number)
-            }
-
-            /// The paper's words.
-            pub fn words(self) -> &'static str {
+            /// The paper's words for it.
+            #[doc = concat!("```\nuse phuyurik::", stringify!($name), ";\n\
+                for one in ", stringify!($name), "::ALL {\n    \
+                assert!(one.to_string().ends_with(one.words()));\n}\n```")]
+            pub const fn words(self) -> &'static str {
                 match self {
                     $($name::$case => $words,)*
                 }
             }
         }
+
+        impl TryFrom<u32> for $name {
+            type Error = $crate::UnknownNumber;
+
+            fn try_from(number: u32) -> Result<$name, $crate::UnknownNumber> {
+                match number {
+                    $($value => Ok($name::$case),)*
+                    _ => Err($crate::UnknownNumber::new($kind, number)),
+                }
+            }
+        }
+
+        impl TryFrom<u8> for $name {
+            type Error = $crate::UnknownNumber;
+
+            fn try_from(number: u8) -> Result<$name, $crate::UnknownNumber> {
+                $name::try_from(u32::from(number))
+            }
+        }
     };
 }
+pub(crate) use numbered;
 
 numbered! {
     /// Why a call was refused. Nothing that was lent has changed.
-    Refusal: u32 {
+    ///
+    /// ```
+    /// use phuyurik::{decode, Refusal};
+    /// let refusal = decode(0).unwrap_err().refusal();
+    /// assert_eq!(refusal, Some(Refusal::NoInstruction));
+    /// assert_eq!(Refusal::NoInstruction.number(), 7);
+    /// let words = "refusal 7: no legal instruction in the given bits";
+    /// assert_eq!(Refusal::NoInstruction.to_string(), words);
+    /// ```
+    Refusal: u32, a "refusal" {
         MemoryTooLong = 1: "memory longer than 65,536",
         RowLength = 2: "row not 512 bytes",
         RowRecord = 3: "a row record breaks its rules",
@@ -54,7 +89,15 @@ numbered! {
 
 numbered! {
     /// Why a run does not go on; `Paused` where it can. A malformed state may have another number.
-    Stop: u8 {
+    ///
+    /// ```
+    /// use phuyurik::{State, Stop};
+    /// assert_eq!(State::fresh().stop(), Ok(Stop::Paused));
+    /// assert_eq!(Stop::try_from(9_u8), Ok(Stop::AlreadyBurnt));
+    /// assert_eq!(Stop::AlreadyBurnt.to_string(), "word already burnt");
+    /// assert!(Stop::try_from(11_u8).is_err());
+    /// ```
+    Stop: u8, a "stop" {
         Paused = 0: "paused, can go on",
         Ecall = 1: "ecall",
         Ebreak = 2: "ebreak",
@@ -70,20 +113,38 @@ numbered! {
 }
 
 /// What of a call's arguments is refused.
-#[derive(Clone, Copy, Debug, PartialEq, Eq)]
+///
+/// ```
+/// use phuyurik::{Argument, Refusal};
+/// assert_eq!(Refusal::RowRecord.argument(), Argument::Row);
+/// ```
+#[non_exhaustive]
+#[derive(Clone, Copy, Debug, PartialEq, Eq, Hash)]
 pub enum Argument {
+    /// Main memory.
     Memory,
+    /// The fuse row.
     Row,
+    /// The buffer of slots, or which of them.
     Slots,
     /// A state, or the record of one.
     State,
+    /// The room for a text.
     Room,
+    /// The bits of an instruction.
     Bits,
+    /// The numbers of an instruction.
     Instruction,
 }
 
 impl Refusal {
-    pub fn argument(self) -> Argument {
+    /// The argument that is at fault.
+    ///
+    /// ```
+    /// use phuyurik::{Argument, Refusal};
+    /// assert_eq!(Refusal::MemoryTooLong.argument(), Argument::Memory);
+    /// ```
+    pub const fn argument(self) -> Argument {
         match self {
             Refusal::MemoryTooLong => Argument::Memory,
             Refusal::RowLength | Refusal::RowRecord => Argument::Row,
@@ -96,6 +157,11 @@ impl Refusal {
     }
 
     /// The refusals of any of these arguments.
+    ///
+    /// ```
+    /// use phuyurik::{Argument, Refusal};
+    /// assert!(Refusal::of(&[Argument::Row]).eq([Refusal::RowLength, Refusal::RowRecord]));
+    /// ```
     pub fn of(arguments: &[Argument]) -> impl Iterator<Item = Refusal> + '_ {
         let all = Refusal::ALL.iter().copied();
         all.filter(|refusal| arguments.contains(&refusal.argument()))
@@ -110,42 +176,76 @@ impl fmt::Display for Refusal {
 
 impl std::error::Error for Refusal {}
 
-/// What a call of the archive returned: 0, or a refusal's number.
-pub(crate) fn checked(number: u32) -> Result<(), Refusal> {
-    match Refusal::from_number(number) {
-        Some(refusal) => Err(refusal),
-        None if number == 0 => Ok(()),
-        None => unreachable!("the archive answers 0 or a refusal's number, which is proved"),
+impl fmt::Display for Stop {
+    fn fmt(&self, f: &mut fmt::Formatter) -> fmt::Result {
+        f.pad(self.words())
     }
 }
 
-impl fmt::Display for Stop {
-    fn fmt(&self, f: &mut fmt::Formatter) -> fmt::Result {
-        f.write_str(self.words())
+/// A number that no stop, refusal or operation has.
+///
+/// ```
+/// use phuyurik::Stop;
+/// let unknown = Stop::try_from(11_u8).unwrap_err();
+/// assert_eq!(unknown.number(), 11);
+/// assert_eq!(unknown.to_string(), "no stop has the number 11");
+/// ```
+#[derive(Clone, Copy, Debug, PartialEq, Eq, Hash)]
+pub struct UnknownNumber {
+    kind: &'static str,
+    number: u32,
+}
+
+impl UnknownNumber {
+    pub(crate) const fn new(kind: &'static str, number: u32) -> UnknownNumber {
+        UnknownNumber { kind, number }
+    }
+
+    /// The number itself.
+    ///
+    /// ```
+    /// use phuyurik::Operation;
+    /// assert_eq!(Operation::try_from(48_u32).unwrap_err().number(), 48);
+    /// ```
+    pub const fn number(self) -> u32 {
+        self.number
     }
 }
+
+impl fmt::Display for UnknownNumber {
+    fn fmt(&self, f: &mut fmt::Formatter) -> fmt::Result {
+        write!(f, "no {} has the number {}", self.kind, self.number)
+    }
+}
+
+impl std::error::Error for UnknownNumber {}
 
 #[cfg(test)]
 mod tests {
     use super::*;
+    use crate::Operation;
 
     #[test]
     fn numbers_leave_none_out() {
         let refusals = Refusal::ALL.iter().map(|refusal| refusal.number());
-        assert!(refusals.eq(1..=Refusal::ALL.len() as u32));
+        assert!(refusals.eq(1..=9));
         let stops = Stop::ALL.iter().map(|stop| stop.number());
-        assert!(stops.eq(0..Stop::ALL.len() as u8));
+        assert!(stops.eq(0..=10));
+        let operations = Operation::ALL.iter().map(|operation| operation.number());
+        assert!(operations.eq(0..=47));
     }
 
     #[test]
-    fn numbers_lead_back() {
-        for stop in Stop::ALL {
-            assert_eq!(Stop::from_number(stop.number()), Some(*stop));
+    fn numbers_lead_back_and_others_lead_nowhere() {
+        for number in 0..=u8::MAX {
+            let stop = Stop::try_from(number).ok();
+            assert_eq!(stop, Stop::ALL.get(usize::from(number)).copied());
+            let operation = Operation::try_from(number).ok();
+            assert_eq!(operation, Operation::ALL.get(usize::from(number)).copied());
+            let refusal = Refusal::try_from(u32::from(number)).ok();
+            let place = usize::from(number).checked_sub(1);
+            assert_eq!(refusal, place.and_then(|at| Refusal::ALL.get(at).copied()));
         }
-        assert_eq!(Stop::from_number(Stop::ALL.len() as u8), None);
-        for refusal in Refusal::ALL {
-            assert_eq!(checked(refusal.number()), Err(*refusal));
-        }
-        assert_eq!(checked(0), Ok(()));
+        assert!(Stop::try_from(256_u32).is_err() && Operation::try_from(1_u32 << 31).is_err());
     }
 }

@@ -22,22 +22,22 @@ fn memory(instruction: u32) -> Vec<u8> {
 /// The fresh state, but for one register.
 fn fresh_with(register: usize, value: u32) -> State {
     let mut s = State::fresh();
-    s.x[register - 1] = value;
+    s.set_reg(register, value);
     s
 }
 
 /// One step of `before`, which has to give `after` and leave a blank row blank.
 fn check_step(memory: &mut [u8], before: &State, after: &State) {
-    let mut s = before.clone();
-    let mut row = [0; ROW];
-    assert_eq!(step(&mut s, memory, &mut row), Ok(()));
+    let mut s = *before;
+    let mut row = Row::default();
+    assert_eq!(Board::new(memory, &mut row).step(&mut s), Ok(()));
     assert_eq!(s, *after, "from {before:?} with M = {}", memory.len());
-    assert_eq!(row, [0; ROW]);
+    assert_eq!(row, Row::default());
 }
 
-fn check_stop(memory: &mut [u8], before: &State, stop: u8) {
-    let mut after = before.clone();
-    after.stop = stop;
+fn check_stop(memory: &mut [u8], before: &State, stop: Stop) {
+    let mut after = *before;
+    after.set_stop(stop);
     check_step(memory, before, &after);
 }
 
@@ -47,12 +47,16 @@ fn lw_at_the_end_of_every_memory() {
     for size in (4..=LONGEST_MEMORY).step_by(4) {
         let last = size as u32 - 4;
         let before = fresh_with(1, last);
-        let mut after = before.clone();
-        after.x[4] = if last == 0 { LOAD_WORD } else { !last };
+        let mut after = before;
+        after.set_reg(5, if last == 0 { LOAD_WORD } else { !last });
         after.pc = 4;
         after.count = 1;
         check_step(&mut full[..size], &before, &after);
-        check_stop(&mut full[..size], &fresh_with(1, size as u32), 6);
+        check_stop(
+            &mut full[..size],
+            &fresh_with(1, size as u32),
+            Stop::LoadOutside,
+        );
     }
     assert_eq!(full, memory(LOAD_WORD));
 }
@@ -61,7 +65,7 @@ fn lw_at_the_end_of_every_memory() {
 fn lh_at_every_odd_address() {
     let mut full = memory(LOAD_HALF);
     for address in (1..LONGEST_MEMORY as u32).step_by(2) {
-        check_stop(&mut full, &fresh_with(1, address), 5);
+        check_stop(&mut full, &fresh_with(1, address), Stop::LoadMisaligned);
     }
     assert_eq!(full, memory(LOAD_HALF));
 }
@@ -72,10 +76,9 @@ fn short_shift_by_31_and_by_32() {
     let mut after = fresh_with(8, 1);
     after.pc = 2;
     after.count = 1;
-    let mut room = [0; ROOM];
-    let length = text_of_half(SHIFT_BY_31, &mut room).unwrap();
-    assert_eq!(room[..length], *b"c:srli x8,x8,31");
+    assert_eq!(text_of_half(SHIFT_BY_31).unwrap(), "c:srli x8,x8,31");
     check_step(&mut SHIFT_BY_31.to_le_bytes(), &before, &after);
-    assert_eq!(expand(SHIFT_BY_32).map_err(Refusal::number), Err(7));
-    check_stop(&mut SHIFT_BY_32.to_le_bytes(), &before, 3);
+    let refused = Error::Refused(Refusal::NoInstruction);
+    assert_eq!(expand(SHIFT_BY_32), Err(refused));
+    check_stop(&mut SHIFT_BY_32.to_le_bytes(), &before, Stop::Illegal);
 }

@@ -1,13 +1,20 @@
-//! The C header's numbers are the wrapper's.
-use phuyurik::{Refusal, Stop, LINE, LONGEST_MEMORY, RECORD, ROOM, ROW};
+//! The C header's numbers and words are the wrapper's.
+use phuyurik::{
+    archive_version, Operation, Refusal, Stop, LINE, LONGEST_MEMORY, RECORD, ROOM, ROW, VERSION,
+    WORDS,
+};
 
 const HEADER: &str = include_str!("../../include/phuyurik.h");
 
+/// What stands in the header between these two.
+fn between(start: &str, end: &str) -> &'static str {
+    let (_, rest) = HEADER.split_once(start).expect("the start is there");
+    rest.split_once(end).expect("there is an end").0
+}
+
 /// The names and numbers of an enum of the header.
 fn listed(name: &str) -> Vec<(String, u32)> {
-    let start = format!("enum {name} {{");
-    let (_, rest) = HEADER.split_once(&start).expect("the enum is there");
-    let (body, _) = rest.split_once("};").expect("the enum has an end");
+    let body = between(&format!("enum {name} {{"), "}");
     let lines = body.lines().filter_map(|line| line.split_once(" = "));
     lines
         .map(|(name, rest)| {
@@ -15,6 +22,15 @@ fn listed(name: &str) -> Vec<(String, u32)> {
             (name.trim().to_string(), digits.parse().expect("a number"))
         })
         .collect()
+}
+
+/// The strings of the table in a function of the header, in order, and the one for other numbers.
+fn told(function: &str) -> (Vec<&'static str>, &'static str) {
+    let body = between(&format!(" *{function}("), "\n}");
+    let (table, rest) = body.split_once("};").expect("the table has an end");
+    let strings = |text: &'static str| text.split('"').skip(1).step_by(2);
+    let other = strings(rest).next().expect("words for other numbers");
+    (strings(table).collect(), other)
 }
 
 /// The header's name of a case: `MemoryTooLong` is `PHUYURIK_MEMORY_TOO_LONG`.
@@ -27,6 +43,16 @@ fn in_c(case: String) -> String {
         name.push(letter.to_ascii_uppercase());
     }
     name
+}
+
+/// The value of a macro of the header that is one number.
+fn defined(name: &str) -> Option<usize> {
+    let name = format!("PHUYURIK_{name}");
+    HEADER.lines().find_map(|line| {
+        let mut words = line.split_whitespace();
+        let is_it = words.next() == Some("#define") && words.next() == Some(&name);
+        is_it.then(|| words.next()?.parse().ok()).flatten()
+    })
 }
 
 #[test]
@@ -46,18 +72,51 @@ fn stops() {
 }
 
 #[test]
+fn operations() {
+    let named = |one: &Operation| (in_c(format!("Op{one:?}")), one.number());
+    let wrapper: Vec<_> = Operation::ALL.iter().map(named).collect();
+    assert_eq!(listed("phuyurik_operation"), wrapper);
+    let in_words = |one: &Operation| format!("PHUYURIK_OP_{}", one.words().to_uppercase());
+    let words: Vec<_> = Operation::ALL.iter().map(in_words).collect();
+    assert!(wrapper.iter().map(|(name, _)| name).eq(&words));
+}
+
+#[test]
+fn words() {
+    let stops: Vec<_> = Stop::ALL.iter().map(|stop| stop.words()).collect();
+    let other = "no stop has this number";
+    assert_eq!(told("phuyurik_stop_text"), (stops, other));
+    let mut refusals = vec!["accepted"];
+    refusals.extend(Refusal::ALL.iter().map(|refusal| refusal.words()));
+    let other = "no refusal has this number";
+    assert_eq!(told("phuyurik_refusal_text"), (refusals, other));
+}
+
+#[test]
 fn sizes() {
     let sizes = [
         ("MEMORY_MAX", LONGEST_MEMORY),
         ("ROW_SIZE", ROW),
+        ("WORDS", WORDS),
         ("RECORD_SIZE", RECORD),
         ("ROOM_MIN", ROOM),
         ("LINE_MAX", LINE),
     ];
     for (name, size) in sizes {
-        let line = format!("#define PHUYURIK_{name} {size}");
-        let words: Vec<&str> = line.split(' ').collect();
-        let is_there = |line: &str| line.split_whitespace().take(3).eq(words.iter().copied());
-        assert!(HEADER.lines().any(is_there), "{line}");
+        assert_eq!(defined(name), Some(size), "{name}");
     }
+    assert_eq!(size_of::<phuyurik::State>(), RECORD);
+    assert_eq!(size_of::<phuyurik::Instruction>(), 5 * size_of::<u32>());
+}
+
+/// The header's, the package's and the archive's.
+#[test]
+fn versions() {
+    let part = |name: &str| defined(&format!("VERSION_{name}")).expect("it is there");
+    let (major, minor, patch) = (part("MAJOR"), part("MINOR"), part("PATCH"));
+    let dotted = format!("{major}.{minor}.{patch}");
+    assert_eq!(dotted, env!("CARGO_PKG_VERSION"));
+    let number = major * 65_536 + minor * 256 + patch;
+    assert_eq!(VERSION as usize, number);
+    assert_eq!(archive_version(), VERSION);
 }

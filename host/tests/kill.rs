@@ -3,7 +3,7 @@
 mod common;
 
 use common::tool;
-use phuyurik::{State, Stop, RECORD, ROW};
+use phuyurik::{Board, State, Stop, RECORD, ROW};
 use std::collections::BTreeMap;
 use std::fs;
 use std::os::unix::ffi::OsStrExt;
@@ -67,12 +67,11 @@ impl Moment {
     fn at(count: u64) -> Moment {
         let mut memory = image();
         let mut row = vec![0; ROW];
-        let mut record = vec![0; RECORD];
         let mut state = State::fresh();
-        phuyurik::run(&mut state, &mut memory, &mut row, count).expect("not refused");
-        phuyurik::write_slot(&mut record, 0, &state).expect("a sound state");
+        let mut board = Board::new(&mut memory, &mut row);
+        board.run(&mut state, count).expect("not refused");
         Moment {
-            record,
+            record: state.to_bytes().to_vec(),
             memory,
             row,
         }

@@ -1,6 +1,6 @@
 //! The plain C interpreter against the proved emulator, on short runs of random programs.
-use crate::plain;
-use phuyurik::Stop;
+use crate::{engines, plain};
+use phuyurik::{Board, State, Stop};
 use testing::Random;
 
 /// Mostly legal and near: random bits with an opcode, a sound funct7, a short way to go.
@@ -70,44 +70,41 @@ fn value(random: &mut Random, length: usize) -> u32 {
     random.pick(&[inside, inside & !3, inside & !3, window & !3, edge, any])
 }
 
-fn state(random: &mut Random, length: usize) -> phuyurik::State {
+fn state(random: &mut Random, length: usize) -> State {
     let near = random.below(length as u64 + 1) as u32;
     let far = random.word();
     let low = random.below(1000);
     let full = u64::MAX - random.below(4);
     let stopped = Stop::AlreadyBurnt.number();
     let mostly = |random: &mut Random| random.below(32) > 0;
-    phuyurik::State {
-        pc: if mostly(random) { near } else { far } & !1,
-        x: [(); 31].map(|()| value(random, length)),
-        count: if mostly(random) { low } else { full },
-        stop: if mostly(random) { 0 } else { stopped },
-    }
+    let pc = if mostly(random) { near } else { far } & !1;
+    let x = [(); 31].map(|()| value(random, length));
+    let count = if mostly(random) { low } else { full };
+    let stop = if mostly(random) { 0 } else { stopped };
+    engines::state(pc, &x, count, stop)
 }
 
-fn plain_state(s: &phuyurik::State) -> plain::State {
-    let mut x = [0; 32];
-    x[1..].copy_from_slice(&s.x);
+fn plain_state(s: &State) -> plain::State {
     plain::State {
         pc: s.pc,
-        x,
+        x: s.registers(),
         count: s.count,
-        stop: s.stop,
+        stop: s.stop_number,
     }
 }
 
 /// Runs both and compares everything they leave; the stop number and the number retired.
-fn compare(mut s: phuyurik::State, memory: &[u8], row: &[u8], budget: u64) -> (u8, u64) {
+fn compare(mut s: State, memory: &[u8], row: &[u8], budget: u64) -> (u8, u64) {
     let (mut memory_a, mut row_a) = (memory.to_vec(), row.to_vec());
     let (mut memory_b, mut row_b) = (memory.to_vec(), row.to_vec());
     let mut s_b = plain_state(&s);
-    let retired = phuyurik::run(&mut s, &mut memory_a, &mut row_a, budget);
+    let retired = Board::new(&mut memory_a, &mut row_a).run(&mut s, budget);
     let retired_b = plain::run(&mut s_b, &mut memory_b, &mut row_b, budget);
     assert_eq!(retired, Ok(retired_b));
     assert_eq!(plain_state(&s), s_b);
     assert_eq!(memory_a, memory_b);
     assert_eq!(row_a, row_b);
-    (s.stop, retired_b)
+    (s.stop_number, retired_b)
 }
 
 #[test]
@@ -136,12 +133,8 @@ fn every_halfword_steps_alike() {
         let mut memory = [0; 256];
         memory[..2].copy_from_slice(&half.to_le_bytes());
         memory[2..4].copy_from_slice(&(random.word() as u16 & 0x41ff).to_le_bytes());
-        let s = phuyurik::State {
-            pc: 0,
-            x: [(); 31].map(|()| value(&mut random, 128) & !3),
-            count: 0,
-            stop: 0,
-        };
+        let x = [(); 31].map(|()| value(&mut random, 128) & !3);
+        let s = engines::state(0, &x, 0, 0);
         retired += compare(s, &memory, &row, 1).1;
     }
     println!("{retired} of 65536 retired");

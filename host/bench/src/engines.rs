@@ -1,7 +1,7 @@
 //! The three engines, made to look alike: an image in, the end of its run and the time out.
 use crate::plain;
 use crate::stopwatch::Stopwatch;
-use phuyurik::State;
+use phuyurik::{Board, State};
 use std::time::Duration;
 
 /// No workload comes near it.
@@ -62,30 +62,30 @@ fn timed<T>(work: impl FnOnce() -> T) -> (T, Duration) {
 
 fn run_phuyurik(memory: &mut [u8], row: &mut [u8]) -> (State, u64, Duration) {
     let mut s = State::fresh();
-    let (retired, time) = timed(|| phuyurik::run(&mut s, memory, row, BUDGET));
+    let mut board = Board::new(memory, row);
+    let (retired, time) = timed(|| board.run(&mut s, BUDGET));
     (s, retired.expect("sound arguments"), time)
 }
 
 fn run_second(memory: &mut [u8], row: &mut [u8]) -> (State, u64, Duration) {
     let mut s = second::State::fresh();
     let (retired, time) = timed(|| second::run(&mut s, memory, row, BUDGET));
-    let state = State {
-        pc: s.pc,
-        x: s.x,
-        count: s.count,
-        stop: s.stop,
-    };
+    let state = state(s.pc, &s.x, s.count, s.stop);
     (state, retired.expect("sound arguments"), time)
 }
 
 fn run_plain(memory: &mut [u8], row: &mut [u8]) -> (State, u64, Duration) {
     let mut s = plain::State::fresh();
     let (retired, time) = timed(|| plain::run(&mut s, memory, row, BUDGET));
-    let state = State {
-        pc: s.pc,
-        x: s.x[1..].try_into().expect("31 registers"),
-        count: s.count,
-        stop: s.stop,
-    };
-    (state, retired, time)
+    (state(s.pc, &s.x[1..], s.count, s.stop), retired, time)
+}
+
+/// A state of the parts that every engine has; `x` is x1 and what follows it.
+pub fn state(pc: u32, x: &[u32], count: u64, stop: u8) -> State {
+    let mut s = State::fresh();
+    (s.pc, s.count, s.stop_number) = (pc, count, stop);
+    for (n, value) in (1..).zip(x) {
+        s.set_reg(n, *value);
+    }
+    s
 }

@@ -30,8 +30,8 @@ pub fn measure(workload: &Workload, repeats: u32) -> Result<Measured, String> {
         }
     }
     let end = agreed.ok_or("nothing was run")?;
-    let stop = end.state.stop;
-    if stop != phuyurik::Stop::Ecall.number() {
+    if end.state.stop() != Ok(phuyurik::Stop::Ecall) {
+        let stop = end.state.stop_number;
         return Err(format!("{}: stop {stop}, not ecall", workload.name));
     }
     Ok(Measured {
@@ -44,9 +44,9 @@ pub fn measure(workload: &Workload, repeats: u32) -> Result<Measured, String> {
 fn difference(a: &End, b: &End) -> Option<&'static str> {
     [
         (a.state.pc != b.state.pc, "pc"),
-        (a.state.x != b.state.x, "register"),
+        (a.state.registers() != b.state.registers(), "register"),
         (a.state.count != b.state.count, "count"),
-        (a.state.stop != b.state.stop, "stop"),
+        (a.state.stop_number != b.state.stop_number, "stop"),
         (a.retired != b.retired, "answer"),
         (a.memory != b.memory, "memory"),
         (a.row != b.row, "row"),
@@ -68,9 +68,9 @@ mod tests {
         assert_eq!(difference(&end, &end), None);
         let changes: [(Change, &str); 7] = [
             (|e| e.state.pc += 2, "pc"),
-            (|e| e.state.x[30] += 1, "register"),
+            (|e| e.state.set_reg(31, 1), "register"),
             (|e| e.state.count += 1, "count"),
-            (|e| e.state.stop += 1, "stop"),
+            (|e| e.state.stop_number += 1, "stop"),
             (|e| e.retired += 1, "answer"),
             (|e| e.memory[3] += 1, "memory"),
             (|e| e.row[511] += 1, "row"),

@@ -1,6 +1,6 @@
 //! The plain C interpreter, behind a safe function.
 
-/// As `struct plain` in plain.h: x[0] is x0.
+/// As `struct plain` in plain.h: `x[0]` is x0.
 #[repr(C)]
 #[derive(Clone, Debug, PartialEq, Eq)]
 pub struct State {

@@ -1,9 +1,10 @@
 //! What each example recipe has to leave behind, worked out here without the machine.
 use crate::engines::{self, End, ENGINES};
 use crate::workloads::WORKLOADS;
+use phuyurik::Stop;
 
-const A0: usize = 9;
-const A1: usize = 10;
+const A0: usize = 10;
+const A1: usize = 11;
 
 /// The recipes' generator, from state 1.
 fn generator() -> impl FnMut() -> u32 {
@@ -20,7 +21,7 @@ fn end(name: &str) -> End {
     let [a, b, c] = ENGINES.map(|engine| engines::run(engine, workload.image).0);
     assert_eq!(a, b);
     assert_eq!(a, c);
-    assert_eq!(a.state.stop, 1);
+    assert_eq!(a.state.stop(), Ok(Stop::Ecall));
     a
 }
 
@@ -35,7 +36,7 @@ fn insertion_sort() {
             sum = sum.wrapping_mul(31).wrapping_add(word as u32);
         }
     }
-    assert_eq!(end("insertion_sort").state.x[A0], sum);
+    assert_eq!(end("insertion_sort").state.reg(A0), sum);
 }
 
 #[test]
@@ -58,7 +59,7 @@ fn crc() {
             remainder = (remainder << 1) ^ (carry * 0x04C1_1DB7);
         }
     }
-    assert_eq!(end("crc").state.x[A0], !remainder.reverse_bits());
+    assert_eq!(end("crc").state.reg(A0), !remainder.reverse_bits());
 }
 
 #[test]
@@ -76,7 +77,7 @@ fn average() {
             total = total.wrapping_add(mean as u32);
         }
     }
-    assert_eq!(end("average").state.x[A0], total);
+    assert_eq!(end("average").state.reg(A0), total);
 }
 
 #[test]
@@ -91,7 +92,7 @@ fn binary_search() {
         }
     }
     let end = end("binary_search");
-    assert_eq!((end.state.x[A0], end.state.x[A1]), (places, found));
+    assert_eq!((end.state.reg(A0), end.state.reg(A1)), (places, found));
 }
 
 type Matrix = [[u32; 3]; 3];
@@ -110,7 +111,7 @@ fn matrix() {
         first = product(first, second);
     }
     let sum = first.concat().into_iter().fold(0, u32::wrapping_add);
-    assert_eq!(end("matrix").state.x[A0], sum);
+    assert_eq!(end("matrix").state.reg(A0), sum);
 }
 
 /// The mean of the readings is 2100.4, so -52 counts and -17 steps of 3 are missing: 47 in six bits.
@@ -120,7 +121,7 @@ fn voltage_trim() {
     for engine in ENGINES {
         let end = engines::run(engine, image).0;
         assert_eq!(
-            (end.state.stop, &end.row[..8]),
+            (end.state.stop_number, &end.row[..8]),
             (1, &[47, 1, 0, 0, 1, 0, 0, 0][..])
         );
         assert_eq!(end.row[8..], [0; 504]);
@@ -135,7 +136,7 @@ fn voltage_trim_of_noisy_readings() {
     image[last..].copy_from_slice(&2400_u16.to_le_bytes());
     for engine in ENGINES {
         let end = engines::run(engine, &image).0;
-        assert_eq!((end.state.stop, end.row), (2, vec![0; 512]));
+        assert_eq!((end.state.stop_number, end.row), (2, vec![0; 512]));
     }
 }
 

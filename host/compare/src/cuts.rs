@@ -3,7 +3,7 @@
 
 use crate::scene::Scene;
 use crate::tally::{Check, Difference, Tally};
-use phuyurik::RECORD;
+use phuyurik::{Board, Error, Slots, RECORD};
 use testing::Random;
 
 /// Where a cut run stands: its memory and row, and the slot that holds its state.
@@ -30,7 +30,7 @@ pub fn cut_run(tally: &mut Tally, random: &mut Random, scene: &Scene) -> Check {
         } else {
             saved.run_and_move(random, budget)
         };
-        retired += piece.map_err(|refusal| problem(refusal.number()))?;
+        retired += piece.map_err(problem)?;
     }
     let call = || format!("a run of {} in pieces: {:x?}", scene.budget, scene.state);
     tally.steps += retired;
@@ -60,20 +60,22 @@ impl Saved {
         }
     }
 
-    fn run_in_slot(&mut self, budget: u64) -> Result<u64, phuyurik::Refusal> {
-        let slots = &mut self.buffers[self.buffer];
-        let retired = phuyurik::run_slot(&mut self.mem, &mut self.row, slots, self.slot, budget)?;
+    fn run_in_slot(&mut self, budget: u64) -> Result<u64, Error> {
+        let mut slots = Slots::new(&mut self.buffers[self.buffer]);
+        let mut board = Board::new(&mut self.mem, &mut self.row);
+        let retired = board.run_slot(&mut slots, self.slot, budget)?;
         self.note_written();
         Ok(retired)
     }
 
     /// Reads the slot, runs, and writes any slot of either buffer.
-    fn run_and_move(&mut self, random: &mut Random, budget: u64) -> Result<u64, phuyurik::Refusal> {
-        let mut state = phuyurik::read_slot(&self.buffers[self.buffer], self.slot)?;
-        let retired = phuyurik::run(&mut state, &mut self.mem, &mut self.row, budget)?;
+    fn run_and_move(&mut self, random: &mut Random, budget: u64) -> Result<u64, Error> {
+        let mut state = Slots::new(&self.buffers[self.buffer]).read(self.slot)?;
+        let retired = Board::new(&mut self.mem, &mut self.row).run(&mut state, budget)?;
         self.buffer = random.length(0, 1);
-        self.slot = random.length(0, self.buffers[self.buffer].len() / RECORD - 1);
-        phuyurik::write_slot(&mut self.buffers[self.buffer], self.slot, &state)?;
+        let mut slots = Slots::new(&mut self.buffers[self.buffer]);
+        self.slot = random.length(0, slots.len() - 1);
+        slots.write(self.slot, &state)?;
         self.note_written();
         Ok(retired)
     }
@@ -101,8 +103,6 @@ fn cuts(random: &mut Random, budget: u64) -> Vec<u64> {
     pieces
 }
 
-fn problem(refusal: u32) -> Difference {
-    Difference(format!(
-        "a piece of a sound scene was refused with {refusal}"
-    ))
+fn problem(error: Error) -> Difference {
+    Difference(format!("a piece of a sound scene: {error}"))
 }

@@ -3,6 +3,7 @@
 #![forbid(unsafe_code)]
 
 mod cuts;
+mod every_word;
 mod lent;
 mod options;
 mod program;
@@ -42,9 +43,9 @@ fn compare(options: &Options) -> ExitCode {
     let seed = options.seed.unwrap_or_else(|| own_seed(options));
     println!("compare: seed {seed}");
     let mut tally = Tally::default();
-    if let Err(Difference(what)) = guarded(|| everything_once(&mut tally)) {
+    if let Err(Difference(what)) = guarded(|| everything_once(&mut tally, options, seed)) {
         println!("compare: a difference, in what is compared before the rounds:\n{what}");
-        println!("compare: replay it with --rounds 0");
+        println!("compare: replay it with {}", replay(options, seed));
         println!("{}", tally.summary(1, seed));
         return ExitCode::FAILURE;
     }
@@ -104,7 +105,16 @@ fn guarded(work: impl FnOnce() -> Check) -> Check {
     answer.unwrap_or_else(|_| Err(Difference("a panic, see above".to_string())))
 }
 
-fn everything_once(tally: &mut Tally) -> Check {
+/// The options that compare again what is compared before the rounds, and nothing else.
+fn replay(options: &Options, seed: u64) -> String {
+    match options.seconds {
+        0 => format!("--seed {seed} --seconds 0 --rounds 0"),
+        _ => format!("--seed {seed} --rounds 0"),
+    }
+}
+
+fn everything_once(tally: &mut Tally, options: &Options, seed: u64) -> Check {
+    every_word::compare(every_word::parts(options.seconds == 0, seed))?;
     words::whole_chart(tally)?;
     words::all_halfwords(tally)?;
     runs::all_edges(tally)?;

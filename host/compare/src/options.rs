@@ -10,6 +10,9 @@ usage: compare [--seed N] [--seconds N] [--rounds N]
   --rounds N   so many rounds, whatever the time: replays a difference
   --help       this text
 
+Before the rounds come every halfword, and of the 2^32 words a sixteenth that the seed
+chooses; with --seconds 0 all of them.
+
 Exit: 0 no difference; 1 a difference, or a stop or refusal that was never reached; 2 usage.
 ";
 

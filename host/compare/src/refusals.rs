@@ -61,9 +61,7 @@ fn spoil(random: &mut Random, scene: &mut Scene, refusal: Refusal) {
                 spoil_record(random, record);
             }
         }
-        Refusal::Room | Refusal::NoInstruction | Refusal::Field | Refusal::NoShortForm => {
-            unreachable!("a scene has no room, bits or instruction")
-        }
+        _ => unreachable!("a scene has nothing else that can be refused"),
     }
 }
 
@@ -100,10 +98,10 @@ fn spoil_slots(random: &mut Random, scene: &mut Scene) {
 }
 
 fn spoil_state(random: &mut Random, scene: &mut Scene) {
-    if random.once_in(2) {
-        scene.state.pc |= 1;
-    } else {
-        scene.state.stop = no_stop(random);
+    match random.below(3) {
+        0 => scene.state.pc |= 1,
+        1 => scene.state.stop = no_stop(random),
+        _ => scene.state.zero[random.length(0, 6)] = random.length(1, 255) as u8,
     }
 }
 

@@ -139,6 +139,9 @@ fn slots(tally: &mut Tally, random: &mut Random) -> Check {
         scene.state.pc = random.word();
         scene.state.stop = random.below(Stop::ALL.len() as u64 + 3) as u8;
     }
+    if random.once_in(16) {
+        scene.state.zero[random.length(0, 6)] = random.number() as u8;
+    }
     if random.once_in(4) {
         scene.k = random.pick(&[0, 1, 2, 3, 4, usize::MAX, 1 << 60, 1 << 63]);
     }

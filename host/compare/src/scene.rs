@@ -2,8 +2,8 @@
 
 use crate::lent::Lent;
 use crate::program::{self, Temper};
-use crate::tally::{first_other, Difference, Tally};
-use phuyurik::{Stop, RECORD, ROW};
+use crate::tally::{first_other, number, Difference, Tally};
+use phuyurik::{Board, Slots, Stop, RECORD, ROW};
 use second::State;
 use testing::Random;
 
@@ -28,22 +28,31 @@ pub enum Entry {
     RunSlot,
 }
 
+/// Where the zeros of a state stand in its record.
+const ZERO: usize = 137;
+
 fn to_proved(state: &State) -> phuyurik::State {
-    phuyurik::State {
-        pc: state.pc,
-        x: state.x,
-        count: state.count,
-        stop: state.stop,
+    let mut record = [0; RECORD];
+    record[ZERO..].copy_from_slice(&state.zero);
+    let mut proved = phuyurik::State::from_bytes(record);
+    (proved.pc, proved.count) = (state.pc, state.count);
+    proved.stop_number = state.stop;
+    for (n, value) in (1..).zip(state.x) {
+        proved.set_reg(n, value);
     }
+    proved
 }
 
-fn to_second(state: &phuyurik::State) -> State {
-    State {
-        pc: state.pc,
-        x: state.x,
-        count: state.count,
-        stop: state.stop,
-    }
+fn to_second(proved: &phuyurik::State) -> State {
+    let mut state = State {
+        pc: proved.pc,
+        count: proved.count,
+        stop: proved.stop_number,
+        ..State::fresh()
+    };
+    state.x.copy_from_slice(&proved.registers()[1..]);
+    state.zero.copy_from_slice(&proved.to_bytes()[ZERO..]);
+    state
 }
 
 /// The number retired where the entry answers one, else 0; or the refusal's number.
@@ -59,21 +68,22 @@ impl Entry {
     fn by_proved(self, scene: &mut Scene) -> Result<Answer, Difference> {
         let lend = |bytes: &[u8]| Lent::new(bytes, scene.shift);
         let mut lent = (lend(&scene.mem), lend(&scene.row), lend(&scene.slots));
-        let (mem, row, slots) = (lent.0.content(), lent.1.content(), lent.2.content());
+        let mut board = Board::new(lent.0.content(), lent.1.content());
+        let mut slots = Slots::new(lent.2.content());
         let mut state = to_proved(&scene.state);
         let answer = match self {
-            Entry::Step => phuyurik::step(&mut state, mem, row).map(|()| 0),
-            Entry::Run => phuyurik::run(&mut state, mem, row, scene.budget),
-            Entry::WriteSlot => phuyurik::write_slot(slots, scene.k, &state).map(|()| 0),
-            Entry::ReadSlot => phuyurik::read_slot(slots, scene.k).map(|read| {
+            Entry::Step => board.step(&mut state).map(|()| 0),
+            Entry::Run => board.run(&mut state, scene.budget),
+            Entry::WriteSlot => slots.write(scene.k, &state).map(|()| 0),
+            Entry::ReadSlot => slots.read(scene.k).map(|read| {
                 state = read;
                 0
             }),
-            Entry::RunSlot => phuyurik::run_slot(mem, row, slots, scene.k, scene.budget),
+            Entry::RunSlot => board.run_slot(&mut slots, scene.k, scene.budget),
         };
         scene.state = to_second(&state);
         (scene.mem, scene.row, scene.slots) = (lent.0.back()?, lent.1.back()?, lent.2.back()?);
-        Ok(answer.map_err(phuyurik::Refusal::number))
+        Ok(answer.map_err(number))
     }
 
     fn by_second(self, scene: &mut Scene) -> Answer {
@@ -254,9 +264,8 @@ fn budget(random: &mut Random) -> u64 {
 pub fn state(random: &mut Random, length: usize) -> State {
     let mut state = State {
         pc: program_counter(random, length) & !1,
-        x: [0; 31],
         count: count(random),
-        stop: 0,
+        ..State::fresh()
     };
     if random.once_in(16) {
         state.stop = random.below(Stop::ALL.len() as u64) as u8;

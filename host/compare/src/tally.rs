@@ -1,12 +1,17 @@
 //! What was compared, and what was reached by it.
 
-use phuyurik::{Refusal, Stop};
+use phuyurik::{Error, Refusal, Stop};
 use std::fmt::Debug;
 
 /// What differed, in words.
 pub struct Difference(pub String);
 
 pub type Check = Result<(), Difference>;
+
+/// A refusal's number, as the second emulator answers it. No other error has the number of one.
+pub fn number(error: Error) -> u32 {
+    error.refusal().map_or(u32::MAX, Refusal::number)
+}
 
 #[derive(Default)]
 pub struct Tally {
@@ -65,11 +70,11 @@ impl Tally {
     pub fn same_answer<T: PartialEq + Debug>(
         &mut self,
         call: impl FnOnce() -> String,
-        proved: Result<T, Refusal>,
+        proved: Result<T, Error>,
         second: Result<T, u32>,
     ) -> Check {
         self.note_refusal(&second);
-        self.same(call, proved.map_err(Refusal::number), second)
+        self.same(call, proved.map_err(number), second)
     }
 
     pub fn note_refusal<T>(&mut self, answer: &Result<T, u32>) {
@@ -115,7 +120,7 @@ fn counts(numbers: &[u64]) -> String {
 }
 
 /// A number with a comma before each three digits.
-fn grouped(number: u64) -> String {
+pub fn grouped(number: u64) -> String {
     let digits = number.to_string();
     let mut text = String::new();
     for (place, digit) in digits.chars().enumerate() {

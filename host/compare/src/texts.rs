@@ -2,7 +2,7 @@
 
 use crate::lent::Lent;
 use crate::program::{self, Temper};
-use crate::tally::{Check, Tally};
+use crate::tally::{Check, Difference, Tally};
 use crate::words;
 use second::Inst;
 use testing::Random;
@@ -37,21 +37,21 @@ pub fn all_halfwords(tally: &mut Tally) -> Check {
 
 pub fn word(tally: &mut Tally, bits: u32, room: &[u8]) -> Check {
     let call = || format!("text_of_word({bits:#010x}) in a room of {}", room.len());
-    let proved = |room: &mut [u8]| phuyurik::text_of_word(bits, room);
+    let proved = |room: &mut [u8]| phuyurik::put_text_of_word(bits, room);
     let second = |room: &mut [u8]| second::text_of_word(bits, room);
     text(tally, call, room, proved, second)
 }
 
 pub fn half(tally: &mut Tally, bits: u16, room: &[u8]) -> Check {
     let call = || format!("text_of_half({bits:#06x}) in a room of {}", room.len());
-    let proved = |room: &mut [u8]| phuyurik::text_of_half(bits, room);
+    let proved = |room: &mut [u8]| phuyurik::put_text_of_half(bits, room);
     let second = |room: &mut [u8]| second::text_of_half(bits, room);
     text(tally, call, room, proved, second)
 }
 
 pub fn instruction(tally: &mut Tally, inst: Inst, room: &[u8]) -> Check {
     let call = || format!("text_of({inst:x?}) in a room of {}", room.len());
-    let proved = |room: &mut [u8]| phuyurik::text_of(words::to_proved(inst), room);
+    let proved = |room: &mut [u8]| phuyurik::put_text_of(words::to_proved(inst), room);
     let second = |room: &mut [u8]| second::text_of(inst, room);
     text(tally, call, room, proved, second)
 }
@@ -61,7 +61,7 @@ fn text(
     tally: &mut Tally,
     call: impl Fn() -> String,
     room: &[u8],
-    proved: impl FnOnce(&mut [u8]) -> Result<usize, phuyurik::Refusal>,
+    proved: impl FnOnce(&mut [u8]) -> Result<usize, phuyurik::Error>,
     second: impl FnOnce(&mut [u8]) -> Result<usize, u32>,
 ) -> Check {
     let (mut lent, mut other) = (Lent::new(room, room.len()), room.to_vec());
@@ -105,14 +105,16 @@ fn page(tally: &mut Tally, image: &[u8], from: usize, room: &[u8]) -> Check {
     let other = second::list(image, from, &mut second);
     let (length, size) = (image.len(), room.len());
     let call = || format!("list of {length} bytes from {from} in a room of {size}");
-    tally.same(call, answer, other)?;
+    tally.same(call, answer, Ok(other))?;
     tally.same_bytes(call, &proved.back()?, &second)
 }
 
 /// The listing as one text, and the same in pages of any length.
 fn whole_listing(tally: &mut Tally, random: &mut Random, image: &[u8]) -> Check {
-    let (proved, second) = (phuyurik::listing(image), second::listing(image));
     let call = || format!("listing of {} bytes", image.len());
+    let broken = |error: phuyurik::Error| Difference(format!("{}: {error}", call()));
+    let second = second::listing(image);
+    let proved = phuyurik::listing(image).map_err(broken)?;
     tally.same_bytes(call, proved.as_bytes(), second.as_bytes())?;
     let (mut pages, mut next) = (Vec::new(), 0);
     while next < image.len() {
@@ -120,7 +122,7 @@ fn whole_listing(tally: &mut Tally, random: &mut Random, image: &[u8]) -> Check 
         let room = random.bytes(length);
         page(tally, image, next, &room)?;
         let mut room = room;
-        let (written, after) = phuyurik::list(image, next, &mut room);
+        let (written, after) = phuyurik::list(image, next, &mut room).map_err(broken)?;
         pages.extend_from_slice(&room[..written]);
         next = after;
     }

@@ -98,14 +98,12 @@ fn encoding(line: &str) -> Option<Bits> {
 }
 
 /// Our bits and our text of the instruction that the bits mean.
-fn ours(bits: Bits, short: bool) -> Result<(Bits, String), phuyurik::Refusal> {
+fn ours(bits: Bits, short: bool) -> Result<(Bits, String), phuyurik::Error> {
     let inst = match bits {
         Bits::Half(half) => phuyurik::expand(half)?,
         Bits::Word(word) => phuyurik::decode(word)?,
     };
-    let mut room = [0; phuyurik::ROOM];
-    let length = phuyurik::text_of(inst, &mut room)?;
-    let text = String::from_utf8_lossy(&room[..length]).into_owned();
+    let text = phuyurik::text_of(inst)?;
     match phuyurik::shorten(inst) {
         Ok(half) if short => Ok((Bits::Half(half), text)),
         _ => Ok((Bits::Word(phuyurik::encode(inst)?), text)),
@@ -119,7 +117,7 @@ pub fn compare(name: &str, maker: Maker, folder: &Folder, all: &[Bits], short: b
     for bits in all {
         match ours(*bits, short) {
             Ok(pair) => pairs.push(pair),
-            Err(refusal) => tally.differs(format!("{}: {refusal}", bits.hex())),
+            Err(error) => tally.differs(format!("{}: {error}", bits.hex())),
         }
     }
     let texts: Vec<String> = pairs.iter().map(|(_, text)| text.clone()).collect();

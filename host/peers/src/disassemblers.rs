@@ -88,15 +88,12 @@ fn line_of_llvm(line: &str) -> Option<Shown> {
 
 /// Our text of the bits, a short one's without the `c:` that must be in front.
 pub fn text_of(bits: Bits) -> Option<String> {
-    let mut room = [0; phuyurik::ROOM];
-    let length = match bits {
-        Bits::Half(half) => phuyurik::text_of_half(half, &mut room),
-        Bits::Word(word) => phuyurik::text_of_word(word, &mut room),
-    };
-    let text = String::from_utf8_lossy(&room[..length.ok()?]).into_owned();
     match bits {
-        Bits::Half(_) => Some(text.strip_prefix("c:").unwrap_or("no c: in front").into()),
-        Bits::Word(_) => Some(text),
+        Bits::Word(word) => phuyurik::text_of_word(word).ok(),
+        Bits::Half(half) => {
+            let text = phuyurik::text_of_half(half).ok()?;
+            Some(text.strip_prefix("c:").unwrap_or("no c: in front").into())
+        }
     }
 }
 

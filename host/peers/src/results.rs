@@ -6,7 +6,7 @@
 use crate::sequences::{program, COUNT};
 use crate::tally::Tally;
 use crate::tools::{read, run, succeed, GCC, OBJCOPY, QEMU};
-use phuyurik::{State, Stop, LONGEST_MEMORY, ROW};
+use phuyurik::{Board, Row, State, Stop, LONGEST_MEMORY};
 use std::path::{Path, PathBuf};
 use std::process::Command;
 use testing::Folder;
@@ -96,18 +96,15 @@ impl Program<'_> {
 
 /// Runs an image to its first `ecall`, which must write; what it would write.
 fn written(memory: &mut [u8]) -> Result<Vec<u8>, String> {
-    let (mut state, mut row) = (State::fresh(), [0; ROW]);
-    let done = phuyurik::run(&mut state, memory, &mut row, BUDGET);
-    done.map_err(|refusal| refusal.to_string())?;
-    let register = |number: usize| state.x[number - 1];
-    let (stop, call, target) = (state.stop, register(17), register(10));
-    if (stop, call, target) != (Stop::Ecall.number(), WRITE, 1) {
-        return Err(format!(
-            "stop {stop} at pc {}, a7 {call}, a0 {target}",
-            state.pc
-        ));
+    let (mut state, mut row) = (State::fresh(), Row::default());
+    let done = Board::new(memory, &mut row).run(&mut state, BUDGET);
+    done.map_err(|error| error.to_string())?;
+    let (call, target) = (state.reg(17), state.reg(10));
+    if (state.stop(), call, target) != (Ok(Stop::Ecall), WRITE, 1) {
+        let (stop, pc) = (state.stop_number, state.pc);
+        return Err(format!("stop {stop} at pc {pc}, a7 {call}, a0 {target}"));
     }
-    let (from, length) = (register(11) as usize, register(12) as usize);
+    let (from, length) = (state.reg(11) as usize, state.reg(12) as usize);
     let bytes = memory.get(from..from + length);
     bytes
         .map(<[u8]>::to_vec)

@@ -7,13 +7,14 @@ const ROW: usize = 512;
 const WINDOW: u32 = 0x8000_0000;
 const WINDOW_LENGTH: u32 = 256;
 
-/// A state: x[0] is x1.
+/// A state: `x[0]` is x1. It is lent as its record, of which the last seven bytes must be zero.
 #[derive(Clone, Debug, Default, PartialEq, Eq)]
 pub struct State {
     pub pc: u32,
     pub x: [u32; 31],
     pub count: u64,
     pub stop: u8,
+    pub zero: [u8; 7],
 }
 
 impl State {
@@ -57,7 +58,7 @@ fn record_is_sound(record: &[u8]) -> bool {
 }
 
 pub(crate) fn check_state(s: &State) -> Result<(), u32> {
-    if !s.pc.is_multiple_of(2) || s.stop > stop::COUNT_FULL {
+    if !s.pc.is_multiple_of(2) || s.stop > stop::COUNT_FULL || s.zero != [0; 7] {
         return Err(refusal::STATE);
     }
     Ok(())
@@ -91,7 +92,7 @@ pub(crate) fn run_checked(s: &mut State, mem: &mut [u8], row: &mut [u8], budget:
     retired
 }
 
-/// A paused machine. x[0] is x0 and stays 0.
+/// A paused machine. `x[0]` is x0 and stays 0.
 struct Machine<'a> {
     pc: u32,
     x: [u32; 32],

@@ -73,7 +73,7 @@ fn add_to_stack_pointer(h: u32) -> Option<Inst> {
     (imm != 0).then(|| immediate(op::ADDI, low_register(h, 2), STACK, imm))
 }
 
-/// C.ADDI16SP: nzimm[9] in bit 12, nzimm[4|6|8:7|5] in bits 6 to 2.
+/// C.ADDI16SP: `nzimm[9]` in bit 12, `nzimm[4|6|8:7|5]` in bits 6 to 2.
 #[inline(always)]
 fn move_stack_pointer(h: u32) -> Option<Inst> {
     let low = field(h, 6, 1, 4) | field(h, 5, 1, 6) | field(h, 3, 2, 7) | field(h, 2, 1, 5);
@@ -154,7 +154,7 @@ fn word_offset(h: u32) -> u32 {
     field(h, 10, 3, 3) | field(h, 6, 1, 2) | field(h, 5, 1, 6)
 }
 
-/// C.LWSP: uimm[5] in bit 12, uimm[4:2|7:6] in bits 6 to 2.
+/// C.LWSP: `uimm[5]` in bit 12, `uimm[4:2|7:6]` in bits 6 to 2.
 #[inline(always)]
 fn load_offset(h: u32) -> u32 {
     field(h, 12, 1, 5) | field(h, 4, 3, 2) | field(h, 2, 2, 6)
@@ -166,7 +166,7 @@ fn store_offset(h: u32) -> u32 {
     field(h, 9, 4, 2) | field(h, 7, 2, 6)
 }
 
-/// imm[5] in bit 12, imm[4:0] in bits 6 to 2, sign-extended.
+/// `imm[5]` in bit 12, `imm[4:0]` in bits 6 to 2, sign-extended.
 #[inline(always)]
 fn signed_6(h: u32) -> u32 {
     sign(h, 5) | rs2(h)

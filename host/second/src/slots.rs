@@ -52,6 +52,7 @@ fn record(s: &State) -> [u8; RECORD] {
     }
     record[COUNT].copy_from_slice(&s.count.to_le_bytes());
     record[STOP] = s.stop;
+    record[STOP + 1..].copy_from_slice(&s.zero);
     record
 }
 
@@ -63,10 +64,8 @@ fn state(record: &[u8]) -> Result<State, u32> {
     }
     s.count = little_endian(&record[COUNT]);
     s.stop = record[STOP];
+    s.zero.copy_from_slice(&record[STOP + 1..]);
     check_state(&s)?;
-    if record[STOP + 1..].iter().any(|&byte| byte != 0) {
-        return Err(refusal::STATE);
-    }
     Ok(s)
 }
 

@@ -3,6 +3,7 @@ use super::args::{Order, PIECE};
 use super::error::Error;
 use super::run::{self, Outcome, Watch};
 use super::{files, show};
+use phuyurik::Stop;
 use std::path::{Path, PathBuf};
 
 const RECIPE: [u8; 14] = [
@@ -62,12 +63,12 @@ fn shown_in(folder: &Path) -> Result<String, Error> {
     fact(listing == LISTING, "the listing is not the paper's")?;
     let mut text = format!("The recipe:\n{listing}");
     let first = run::run(&order, &mut Silent)?;
-    is_as_on_card(&first, 3, 1, 10, &[(0, 7)])?;
+    is_as_on_card(&first, 3, Stop::Ecall, 10, &[(0, 7)])?;
     text += &format!("\nIts run on a blank row:\n{}", show::facts(&first));
     let row = files::read(&order.row, usize::MAX)?;
     text += &format!("\nThe row:\n{}", show::row(&order.row)?);
     let second = run::run(&order, &mut Silent)?;
-    is_as_on_card(&second, 2, 9, 6, &[])?;
+    is_as_on_card(&second, 2, Stop::AlreadyBurnt, 6, &[])?;
     text += &format!("\nA new start on that row:\n{}", show::facts(&second));
     let same = files::read(&order.row, usize::MAX)? == row;
     fact(same, "the new start changed the row")?;
@@ -85,13 +86,13 @@ fn fact(holds: bool, otherwise: &str) -> Result<(), Error> {
 fn is_as_on_card(
     done: &Outcome,
     retired: u64,
-    stop: u8,
+    stop: Stop,
     pc: u32,
     burnt: &[(usize, u32)],
 ) -> Result<(), Error> {
     let state = &done.state;
     fact(done.retired == retired, "the retired count is wrong")?;
-    fact(state.stop == stop, "the stop is wrong")?;
+    fact(state.stop() == Ok(stop), "the stop is wrong")?;
     fact(state.pc == pc, "the pc is wrong")?;
     fact(done.burnt == burnt, "the burnt words are wrong")
 }

@@ -20,6 +20,14 @@ impl Error {
         Error::File(path.to_path_buf(), why.to_string())
     }
 
+    /// What the library said of what a file holds.
+    pub fn of_library(path: &Path, error: phuyurik::Error) -> Error {
+        match error.refusal() {
+            Some(refusal) => Error::Refused(path.to_path_buf(), refusal),
+            None => Error::file(path, error),
+        }
+    }
+
     pub fn exit_code(&self) -> u8 {
         match self {
             Error::Fact(_) => 1,

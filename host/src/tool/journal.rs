@@ -9,7 +9,7 @@
 use super::error::Error;
 use super::files::{self, Action, Lock};
 use super::sealed::{digest, seal, unseal};
-use phuyurik::{read_slot, write_slot, RECORD, ROW};
+use phuyurik::{Row, Slots, RECORD};
 use std::ffi::OsStr;
 use std::os::unix::ffi::OsStrExt;
 use std::path::{Path, PathBuf};
@@ -41,7 +41,7 @@ pub struct Moment {
     pub slot: usize,
     pub image: ImageMark,
     pub record: [u8; RECORD],
-    pub row: [u8; ROW],
+    pub row: Row,
     pub memory: Vec<u8>,
 }
 
@@ -112,7 +112,7 @@ impl Moment {
             &self.image.length.to_le_bytes(),
             &self.image.digest.to_le_bytes(),
             &self.record,
-            &self.row,
+            self.row.as_ref(),
             &self.memory,
         ];
         seal(JOURNAL, &fields)
@@ -148,11 +148,12 @@ impl Moment {
 
     /// The slots as they are, with this moment's record in its slot.
     fn slots_file(&self) -> Result<Vec<u8>, Error> {
-        let refused = |refusal| Error::Refused(self.slots_path.clone(), refusal);
-        let mut slots = files::read(&self.slots_path, usize::MAX)?;
-        let state = read_slot(&self.record, 0).map_err(refused)?;
-        write_slot(&mut slots, self.slot, &state).map_err(refused)?;
-        Ok(slots)
+        let mut slots = Slots::new(files::read(&self.slots_path, usize::MAX)?);
+        Slots::new(&self.record)
+            .read(0)
+            .and_then(|state| slots.write(self.slot, &state))
+            .map_err(|error| Error::of_library(&self.slots_path, error))?;
+        Ok(slots.into_inner())
     }
 
     /// Puts a moment whose journal stands into its files.
@@ -161,7 +162,7 @@ impl Moment {
         let mut actions = Vec::new();
         actions.extend(files::replacing(&memory, self.memory_file()));
         actions.extend(files::replacing(&self.slots_path, self.slots_file()?));
-        actions.extend(files::replacing(&self.row_path, self.row.to_vec()));
+        actions.extend(files::replacing(&self.row_path, self.row.as_ref().to_vec()));
         actions.push(Action::Remove(journal_of(&self.row_path)));
         Ok(actions)
     }

@@ -5,7 +5,7 @@ use super::journal::{
     journal_of, memory_of, path_bytes, pending, ImageMark, Locks, Memory, Moment,
 };
 use super::sealed::digest;
-use phuyurik::{State, RECORD, ROW};
+use phuyurik::{Row, State, RECORD, WORDS};
 use std::fs;
 use testing::Folder;
 
@@ -14,22 +14,19 @@ const SLOT: usize = 1;
 
 /// A moment of which no byte of state, memory or row is that of another `mark`.
 fn moment(folder: &Folder, row: &str, mark: u8) -> Moment {
-    let state = State {
-        pc: 2 * u32::from(mark),
-        x: [u32::from(mark); 31],
-        count: u64::from(mark),
-        stop: 0,
-    };
-    let mut record = [0; RECORD];
-    phuyurik::write_slot(&mut record, 0, &state).expect("a sound state");
-    let word = [mark, 0, 0, 0, 1, 0, 0, 0];
+    let mut state = State::fresh();
+    (state.pc, state.count) = (2 * u32::from(mark), u64::from(mark));
+    for n in 1..32 {
+        state.set_reg(n, u32::from(mark));
+    }
+    let words = [mark, 0, 0, 0, 1, 0, 0, 0].repeat(WORDS);
     Moment {
         row_path: folder.file(row),
         slots_path: folder.file("slots"),
         slot: SLOT,
         image: ImageMark::of(b"image"),
-        record,
-        row: word.repeat(ROW / 8).try_into().expect("512 bytes"),
+        record: state.to_bytes(),
+        row: Row::try_from(&words[..]).expect("512 bytes"),
         memory: vec![mark; 5],
     }
 }
@@ -72,7 +69,7 @@ fn found(like: &Moment) -> Option<Moment> {
         row_path: memory.row_path,
         image: memory.image,
         record: record.try_into().expect("144 bytes"),
-        row: row.try_into().expect("512 bytes"),
+        row: Row::try_from(&row[..]).expect("512 bytes"),
         memory: memory.bytes,
         ..like.clone()
     })

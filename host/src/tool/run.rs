@@ -4,7 +4,9 @@ use super::error::Error;
 use super::files;
 use super::journal::{self, ImageMark, Locks, Memory, Moment};
 use super::sealed::digest;
-use phuyurik::{read_slot, run_slot, Argument, Refusal, State, LONGEST_MEMORY, RECORD, ROW};
+use phuyurik::{
+    Argument, Board, Refusal, Row, Slots, State, Stop, Word, LONGEST_MEMORY, RECORD, ROW,
+};
 use std::collections::BTreeSet;
 use std::io::{IsTerminal, Write};
 use std::path::{Path, PathBuf};
@@ -128,21 +130,23 @@ impl Job<'_> {
         }
     }
 
-    fn refused(&self, refusal: Refusal) -> Error {
-        let path: &Path = match refusal.argument() {
-            Argument::Memory => &self.order.image,
-            Argument::Row => &self.row_path,
+    fn failed(&self, error: phuyurik::Error) -> Error {
+        let path: &Path = match error.refusal().map(Refusal::argument) {
+            Some(Argument::Memory) => &self.order.image,
+            Some(Argument::Row) => &self.row_path,
             _ => &self.slots_path,
         };
-        Error::Refused(path.to_path_buf(), refusal)
+        Error::of_library(path, error)
     }
 
     /// The library's own answer on everything that it would be lent: a run of budget 0.
     fn checked(&self, row: &[u8], slots: &[u8]) -> Result<State, Error> {
-        let (mut memory, mut row, mut slots) = (self.image.clone(), row.to_vec(), slots.to_vec());
-        run_slot(&mut memory, &mut row, &mut slots, self.slot(), 0)
-            .and_then(|_| read_slot(&slots, self.slot()))
-            .map_err(|refusal| self.refused(refusal))
+        let (mut memory, mut row) = (self.image.clone(), row.to_vec());
+        let mut slots = Slots::new(slots.to_vec());
+        Board::new(&mut memory, &mut row)
+            .run_slot(&mut slots, self.slot(), 0)
+            .and_then(|_| slots.read(self.slot()))
+            .map_err(|error| self.failed(error))
     }
 
     /// A moment of this job. Row and record have been checked, so their lengths are right.
@@ -153,7 +157,7 @@ impl Job<'_> {
             slot: self.slot(),
             image: ImageMark::of(&self.image),
             record: record.try_into().expect("a record of 144 bytes"),
-            row: row.try_into().expect("a row of 512 bytes"),
+            row: Row::try_from(row).expect("a row of 512 bytes"),
             memory,
         }
     }
@@ -175,9 +179,7 @@ impl Job<'_> {
         if old_slots.is_none() {
             files::carry_out(&files::replacing(&self.slots_path, slots))?;
         }
-        let mut fresh = [0; RECORD];
-        phuyurik::write_slot(&mut fresh, 0, &State::fresh())
-            .map_err(|refusal| self.refused(refusal))?;
+        let fresh = State::fresh().to_bytes();
         let moment = self.moment(&row, &fresh, self.image.clone());
         files::carry_out(&moment.saving()?)?;
         if old_row.is_none() {
@@ -213,7 +215,7 @@ impl Job<'_> {
 
     /// A paused run is given up for a new start on its own row only.
     fn slot_may_be_replaced(&self, state: &State) -> Result<(), Error> {
-        let is_paused = state.stop == 0;
+        let is_paused = state.stop() == Ok(Stop::Paused);
         match Memory::read(&self.slots_path, self.slot())? {
             Some(memory) if is_paused && memory.row_path != self.row_path => {
                 let row = memory.row_path.display();
@@ -252,19 +254,14 @@ impl Job<'_> {
     }
 
     fn go(&self, moment: &mut Moment, watch: &mut dyn Watch) -> Result<Outcome, Error> {
-        let before = moment.row;
+        let before = moment.row.clone();
         let mut retired = 0;
         let mut state = self.state(moment)?;
-        while state.stop == 0 && retired < self.order.budget {
+        while state.stop() == Ok(Stop::Paused) && retired < self.order.budget {
             let piece = self.order.piece.min(self.order.budget - retired);
-            retired += run_slot(
-                &mut moment.memory,
-                &mut moment.row,
-                &mut moment.record,
-                0,
-                piece,
-            )
-            .map_err(|refusal| self.refused(refusal))?;
+            retired += Board::new(&mut moment.memory, &mut moment.row)
+                .run_slot(&mut Slots::new(&mut moment.record), 0, piece)
+                .map_err(|error| self.failed(error))?;
             files::carry_out(&moment.saving()?)?;
             state = self.state(moment)?;
             let burnt = newly_burnt(&before, &moment.row).len();
@@ -278,21 +275,23 @@ impl Job<'_> {
     }
 
     fn state(&self, moment: &Moment) -> Result<State, Error> {
-        read_slot(&moment.record, 0).map_err(|refusal| self.refused(refusal))
+        let slots = Slots::new(&moment.record);
+        slots.read(0).map_err(|error| self.failed(error))
     }
 }
 
 /// The burnt words of a row, as index and value.
-pub fn burnt_words(row: &[u8]) -> Vec<(usize, u32)> {
-    let value = |word: &[u8]| u32::from_le_bytes([word[0], word[1], word[2], word[3]]);
-    let words = row.chunks_exact(8).enumerate();
+pub fn burnt_words(row: &Row) -> Vec<(usize, u32)> {
+    let words = row.words().enumerate();
     words
-        .filter(|(_, word)| word[4] == 1)
-        .map(|(index, word)| (index, value(word)))
+        .filter_map(|(index, word)| match word {
+            Word::Burnt(value) => Some((index, value)),
+            Word::Blank => None,
+        })
         .collect()
 }
 
-fn newly_burnt(before: &[u8], after: &[u8]) -> Vec<(usize, u32)> {
+fn newly_burnt(before: &Row, after: &Row) -> Vec<(usize, u32)> {
     let old = burnt_words(before);
     let mut words = burnt_words(after);
     words.retain(|word| !old.contains(word));

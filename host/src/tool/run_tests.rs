@@ -4,7 +4,7 @@ use super::files::{self, Action};
 use super::journal::{ImageMark, Moment};
 use super::run::{run, Watch};
 use super::show::{stop_code, stop_of};
-use phuyurik::{State, RECORD, ROW};
+use phuyurik::{Row, State, Stop, RECORD};
 use testing::Folder;
 
 /// Keeps what it is told.
@@ -42,20 +42,16 @@ const ENDLESS: [u8; 2] = [0x01, 0xA0];
 
 /// The save of a run that has come to this count, as the tool saves it.
 fn saving(folder: &Folder, count: u64) -> Vec<Action> {
-    let mut record = [0; RECORD];
-    let state = State {
-        count,
-        ..State::fresh()
-    };
-    phuyurik::write_slot(&mut record, 0, &state).expect("sound");
+    let mut state = State::fresh();
+    state.count = count;
     folder.write("slots", &[0; RECORD]);
     let moment = Moment {
         row_path: folder.file("row"),
         slots_path: folder.file("slots"),
         slot: 0,
         image: ImageMark::of(&ENDLESS),
-        record,
-        row: [0; ROW],
+        record: state.to_bytes(),
+        row: Row::default(),
         memory: ENDLESS.to_vec(),
     };
     moment.saving().expect("planned")
@@ -70,10 +66,8 @@ fn a_full_count_is_20() {
         ..order(&folder, &ENDLESS, u64::MAX, u64::MAX)
     };
     let done = run(&order, &mut Told::default()).expect("not refused");
-    assert_eq!(
-        (done.retired, done.state.count, done.state.stop),
-        (2, u64::MAX, 10)
-    );
+    assert_eq!((done.retired, done.state.count), (2, u64::MAX));
+    assert_eq!(done.state.stop(), Ok(Stop::CountFull));
     assert_eq!(stop_code(stop_of(&done.state)), 20);
 }
 
@@ -82,7 +76,7 @@ fn the_last_piece_is_what_is_left_of_the_budget() {
     let folder = Folder::new();
     let mut told = Told::default();
     let done = run(&order(&folder, &ENDLESS, 10, 4), &mut told).expect("not refused");
-    assert_eq!((done.retired, done.state.stop), (10, 0));
+    assert_eq!((done.retired, done.state.stop()), (10, Ok(Stop::Paused)));
     assert_eq!(told.progress, [(4, 10, 0), (8, 10, 0), (10, 10, 0)]);
     assert_eq!(told.notes.len(), 1);
     assert!(told.notes[0].contains("a new part, its row blank"));

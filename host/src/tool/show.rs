@@ -3,15 +3,15 @@ use super::error::Error;
 use super::files;
 use super::journal;
 use super::run::{burnt_words, Outcome};
-use phuyurik::{read_slot, State, Stop, LONGEST_MEMORY, ROW};
+use phuyurik::{Board, Row, Slots, State, Stop, LONGEST_MEMORY, ROW};
 use std::fmt::Write;
 use std::path::Path;
 
 const WINDOW: u32 = 0x8000_0000;
 
-pub fn list(image: &Path) -> Result<String, Error> {
-    let image = files::read(image, LONGEST_MEMORY + 1)?;
-    Ok(phuyurik::listing(&image))
+pub fn list(path: &Path) -> Result<String, Error> {
+    let image = files::read(path, LONGEST_MEMORY + 1)?;
+    phuyurik::listing(&image).map_err(|error| Error::of_library(path, error))
 }
 
 fn both(value: u32) -> String {
@@ -19,10 +19,12 @@ fn both(value: u32) -> String {
 }
 
 pub fn row(path: &Path) -> Result<String, Error> {
-    let mut row = files::read(path, ROW + 1)?;
+    let mut bytes = files::read(path, ROW + 1)?;
     // Whether it is a row is the library's to say: a run of budget 0.
-    phuyurik::run(&mut State::fresh(), &mut [], &mut row, 0)
-        .map_err(|refusal| Error::Refused(path.to_path_buf(), refusal))?;
+    let row = Board::new(&mut [], &mut bytes)
+        .run(&mut State::fresh(), 0)
+        .and_then(|_| Ok(Row::try_from(&bytes[..])?))
+        .map_err(|error| Error::of_library(path, error))?;
     let path = files::canonical(path)?;
     if journal::journal_of(&path).exists() {
         say_unsettled(&path);
@@ -37,7 +39,7 @@ fn say_unsettled(row: &Path) {
     );
 }
 
-pub fn row_text(row: &[u8]) -> String {
+pub fn row_text(row: &Row) -> String {
     let words = burnt_words(row);
     let mut text = String::new();
     for (index, value) in &words {
@@ -45,14 +47,15 @@ pub fn row_text(row: &[u8]) -> String {
         writeln!(text, "word {index:>2} at 0x{address:08x}: {}", both(*value))
             .expect("a string takes all");
     }
-    let blank = row.len() / 8 - words.len();
+    let blank = row.words().len() - words.len();
     text + &format!("{} burnt, {blank} blank\n", words.len())
 }
 
 pub fn slot(path: &Path, k: usize) -> Result<String, Error> {
-    let slots = files::read(path, usize::MAX)?;
-    let state =
-        read_slot(&slots, k).map_err(|refusal| Error::Refused(path.to_path_buf(), refusal))?;
+    let slots = Slots::new(files::read(path, usize::MAX)?);
+    let state = slots
+        .read(k)
+        .map_err(|error| Error::of_library(path, error))?;
     let path = files::canonical(path)?;
     let remark = files::read_if_there(&files::beside(&path, ".lock"), usize::MAX)?;
     let last = journal::path_from(&remark.unwrap_or_default());
@@ -64,16 +67,17 @@ pub fn slot(path: &Path, k: usize) -> Result<String, Error> {
 
 pub fn slot_text(state: &State) -> String {
     let mut text = format!("pc {}\n", both(state.pc));
-    for (at, value) in state.x.iter().enumerate() {
-        if *value != 0 {
-            text += &format!("x{} {}\n", at + 1, both(*value));
+    for (n, value) in state.registers().into_iter().enumerate() {
+        if value != 0 {
+            text += &format!("x{n} {}\n", both(value));
         }
     }
     text + &format!("count {}\n{}\n", state.count, stop_text(stop_of(state)))
 }
 
 pub fn stop_of(state: &State) -> Stop {
-    Stop::from_number(state.stop).expect("the library gave a state that is not malformed")
+    let stop = state.stop();
+    stop.expect("the library gave a state that is not malformed")
 }
 
 pub fn stop_text(stop: Stop) -> String {

@@ -1,0 +1,160 @@
+//! Steps and runs.
+use crate::error::{ask, Error};
+use crate::{Slots, State};
+use phuyurik_sys as sys;
+
+/// What a recipe runs on: main memory, at address 0, and the fuse row of the part, lent once for any
+/// number of steps and runs. Whether they are sound is looked at in each.
+///
+/// ```
+/// use phuyurik::{Board, Row, State, Stop, Word};
+/// // addi x5,x0,7; lui x6,524288; sw x5,0(x6); ecall
+/// let mut memory = [0x9D, 0x42, 0x37, 0x03, 0x00, 0x80, 0x23, 0x20, 0x53, 0x00, 0x73, 0, 0, 0];
+/// let mut row = Row::default();
+/// let mut board = Board::new(&mut memory, &mut row);
+/// let mut state = State::fresh();
+/// board.step(&mut state)?;
+/// assert_eq!(board.run(&mut state, 100)?, 2);
+/// assert_eq!((state.stop(), state.pc), (Ok(Stop::Ecall), 10));
+/// assert_eq!(row.word(0), Word::Burnt(7));
+/// # Ok::<(), phuyurik::Error>(())
+/// ```
+#[derive(Debug)]
+pub struct Board<'a> {
+    memory: &'a mut [u8],
+    row: &'a mut [u8],
+}
+
+impl<'a> Board<'a> {
+    /// A board of this memory and this row, which may be a [`Row`](crate::Row) or any bytes.
+    ///
+    /// ```
+    /// use phuyurik::{Board, Row, ROW};
+    /// let mut memory = vec![0; 64];
+    /// Board::new(&mut memory, &mut Row::default());
+    /// Board::new(&mut memory, &mut [0; ROW]);
+    /// Board::new(&mut memory[..32], &mut vec![0; ROW]);
+    /// ```
+    pub fn new<R: AsMut<[u8]> + ?Sized>(memory: &'a mut [u8], row: &'a mut R) -> Board<'a> {
+        let row = row.as_mut();
+        Board { memory, row }
+    }
+
+    /// One step; a state that has stopped stays as it is. Memory, row and state may be refused.
+    ///
+    /// ```
+    /// use phuyurik::{Board, Row, State};
+    /// let (mut memory, mut row) = ([0x93, 0x00, 0x70, 0x00], Row::default());
+    /// let mut state = State::fresh();
+    /// Board::new(&mut memory, &mut row).step(&mut state)?;
+    /// assert_eq!((state.pc, state.reg(1), state.count), (4, 7, 1));
+    /// # Ok::<(), phuyurik::Error>(())
+    /// ```
+    pub fn step(&mut self, state: &mut State) -> Result<(), Error> {
+        let (memory, row) = (&mut *self.memory, &mut *self.row);
+        // SAFETY: every buffer and place is lent for the call alone, and no two of them overlap; a
+        // `State` is laid out as the C interface's.
+        ask(|| unsafe {
+            sys::phuyurik_step(
+                state.lent_mut(),
+                memory.as_mut_ptr(),
+                memory.len(),
+                row.as_mut_ptr(),
+                row.len(),
+            )
+        })
+    }
+
+    /// Steps while the state is paused and fewer than `budget` have retired; the number retired.
+    /// Memory, row and state may be refused.
+    ///
+    /// ```
+    /// use phuyurik::{Board, Refusal, Row, State, Stop};
+    /// let (mut memory, mut row) = ([0x01, 0xA0], Row::default()); // jal x0,0
+    /// let mut state = State::fresh();
+    /// let mut board = Board::new(&mut memory, &mut row);
+    /// assert_eq!(board.run(&mut state, 1000)?, 1000);
+    /// assert_eq!(state.stop(), Ok(Stop::Paused));
+    /// state.pc = 1;
+    /// assert_eq!(board.run(&mut state, 1000), Err(Refusal::State.into()));
+    /// # Ok::<(), phuyurik::Error>(())
+    /// ```
+    pub fn run(&mut self, state: &mut State, budget: u64) -> Result<u64, Error> {
+        let (memory, row) = (&mut *self.memory, &mut *self.row);
+        let mut retired = 0;
+        // SAFETY: as above.
+        ask(|| unsafe {
+            sys::phuyurik_run(
+                state.lent_mut(),
+                memory.as_mut_ptr(),
+                memory.len(),
+                row.as_mut_ptr(),
+                row.len(),
+                budget,
+                &mut retired,
+            )
+        })?;
+        Ok(retired)
+    }
+
+    /// Reads slot `k`, runs it as [`Board::run`] does and writes it back; the number retired. However
+    /// a budget is cut into such calls, the end is that of the whole budget. Memory, row, the slot
+    /// and the record in it may be refused.
+    ///
+    /// ```
+    /// use phuyurik::{Board, Row, Slots, RECORD};
+    /// let (mut memory, mut row) = ([0x01, 0xA0], Row::default()); // jal x0,0
+    /// let mut slots = Slots::new(vec![0; 2 * RECORD]);
+    /// let mut board = Board::new(&mut memory, &mut row);
+    /// for budget in [3, 0, 4] {
+    ///     assert_eq!(board.run_slot(&mut slots, 1, budget)?, budget);
+    /// }
+    /// assert_eq!((slots.read(0)?.count, slots.read(1)?.count), (0, 7));
+    /// # Ok::<(), phuyurik::Error>(())
+    /// ```
+    pub fn run_slot<B: AsMut<[u8]>>(
+        &mut self,
+        slots: &mut Slots<B>,
+        k: usize,
+        budget: u64,
+    ) -> Result<u64, Error> {
+        let (memory, row) = (&mut *self.memory, &mut *self.row);
+        let slots = slots.bytes_mut();
+        let mut retired = 0;
+        // SAFETY: as above.
+        ask(|| unsafe {
+            sys::phuyurik_run_slot(
+                memory.as_mut_ptr(),
+                memory.len(),
+                row.as_mut_ptr(),
+                row.len(),
+                slots.as_mut_ptr(),
+                slots.len(),
+                k,
+                budget,
+                &mut retired,
+            )
+        })?;
+        Ok(retired)
+    }
+
+    /// The memory as it is now.
+    ///
+    /// ```
+    /// use phuyurik::{Board, Row};
+    /// assert_eq!(Board::new(&mut [1, 2], &mut Row::default()).memory(), [1, 2]);
+    /// ```
+    pub fn memory(&self) -> &[u8] {
+        self.memory
+    }
+
+    /// The row as it is now.
+    ///
+    /// ```
+    /// use phuyurik::{Board, Row, ROW};
+    /// assert_eq!(Board::new(&mut [], &mut Row::default()).row(), [0; ROW]);
+    /// ```
+    pub fn row(&self) -> &[u8] {
+        self.row
+    }
+}

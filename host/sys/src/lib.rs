@@ -1,0 +1,178 @@
+//! The archive's functions and types, as `include/phuyurik.h` declares them, and nothing more: what
+//! each does, and what a caller owes it, is said there. The package `phuyurik` has them in Rust's
+//! own types, and without `unsafe`.
+//!
+//! ```
+//! use phuyurik_sys::{phuyurik_step, phuyurik_version, State, VERSION};
+//! let (mut state, mut memory, mut row) = (State::default(), [0x93, 0x00, 0x70, 0x00], [0; 512]);
+//! // SAFETY: each buffer has as many bytes as is said, and they do not overlap.
+//! unsafe {
+//!     assert_eq!(phuyurik_version(), VERSION);
+//!     assert_eq!(phuyurik_step(&mut state, memory.as_mut_ptr(), 4, row.as_mut_ptr(), 512), 0);
+//! }
+//! assert_eq!((state.pc, state.x[0], state.count), (4, 7, 1));
+//! ```
+#![no_std]
+#![warn(missing_docs)]
+
+use core::mem::{offset_of, size_of};
+
+const _: () = assert!(
+    usize::BITS == 64,
+    "the library's sizes and slot numbers have 64 bits, and so must usize"
+);
+const _: () = assert!(
+    cfg!(target_endian = "little"),
+    "a state in memory is its record, which is little-endian, and so must the machine be"
+);
+
+/// This package's version as one number, major * 65536 + minor * 256 + patch. That of the archive is
+/// [`phuyurik_version`]'s, and must be the same.
+pub const VERSION: u32 = number(env!("CARGO_PKG_VERSION_MAJOR")) * 65_536
+    + number(env!("CARGO_PKG_VERSION_MINOR")) * 256
+    + number(env!("CARGO_PKG_VERSION_PATCH"));
+
+const fn number(digits: &str) -> u32 {
+    let digits = digits.as_bytes();
+    let (mut value, mut at) = (0, 0);
+    while at < digits.len() {
+        value = value * 10 + (digits[at] - b'0') as u32;
+        at += 1;
+    }
+    value
+}
+
+/// `phuyurik_inst`: an operation's number and the operands, 0 for each that it does not have.
+#[repr(C)]
+#[derive(Clone, Copy, Debug, Default, PartialEq, Eq, Hash)]
+pub struct Instruction {
+    /// The operation, 0 to 47 in the paper's order.
+    pub operation: u32,
+    /// The register that is written.
+    pub rd: u32,
+    /// The first register that is read.
+    pub rs1: u32,
+    /// The second register that is read.
+    pub rs2: u32,
+    /// The immediate, offset, field or shift amount.
+    pub imm: u32,
+}
+
+/// `phuyurik_state`: its bytes in memory are those of its record in a slot.
+#[repr(C)]
+#[derive(Clone, Copy, Debug, Default, PartialEq, Eq, Hash)]
+pub struct State {
+    /// The address of the next instruction.
+    pub pc: u32,
+    /// The registers; `x[0]` is x1.
+    pub x: [u32; 31],
+    /// The steps retired so far.
+    pub count: u64,
+    /// The number of a stop, 0 while the state is paused.
+    pub stop: u8,
+    /// Zero.
+    pub zero: [u8; 7],
+}
+
+const _: () = {
+    assert!(size_of::<State>() == 144, "a state is its record");
+    assert!(offset_of!(State, pc) == 0);
+    assert!(offset_of!(State, x) == 4);
+    assert!(offset_of!(State, count) == 128);
+    assert!(offset_of!(State, stop) == 136);
+    assert!(offset_of!(State, zero) == 137);
+    assert!(size_of::<Instruction>() == 20);
+    assert!(offset_of!(Instruction, operation) == 0);
+    assert!(offset_of!(Instruction, imm) == 16);
+};
+
+// Each answers 0 or a refusal's number, but for the version.
+extern "C" {
+    /// The archive's version, as [`VERSION`] is this package's.
+    pub fn phuyurik_version() -> u32;
+    /// The format class of 32 bits.
+    pub fn phuyurik_chart(bits: u32, format: *mut u8) -> u32;
+    /// What 32 bits mean.
+    pub fn phuyurik_decode(bits: u32, inst: *mut Instruction) -> u32;
+    /// What 16 bits mean.
+    pub fn phuyurik_expand(bits: u16, inst: *mut Instruction) -> u32;
+    /// The word of an instruction.
+    pub fn phuyurik_encode(inst: *const Instruction, bits: *mut u32) -> u32;
+    /// The smallest halfword that stands for an instruction.
+    pub fn phuyurik_shorten(inst: *const Instruction, bits: *mut u16) -> u32;
+    /// The text of 32 bits.
+    pub fn phuyurik_text_of_word(
+        bits: u32,
+        room: *mut u8,
+        room_size: usize,
+        length: *mut usize,
+    ) -> u32;
+    /// The text of 16 bits.
+    pub fn phuyurik_text_of_half(
+        bits: u16,
+        room: *mut u8,
+        room_size: usize,
+        length: *mut usize,
+    ) -> u32;
+    /// The text of an instruction.
+    pub fn phuyurik_text_of(
+        inst: *const Instruction,
+        room: *mut u8,
+        room_size: usize,
+        length: *mut usize,
+    ) -> u32;
+    /// Whole lines of an image's listing.
+    pub fn phuyurik_list(
+        image: *const u8,
+        image_size: usize,
+        from: usize,
+        room: *mut u8,
+        room_size: usize,
+        length: *mut usize,
+        next: *mut usize,
+    ) -> u32;
+    /// One step.
+    pub fn phuyurik_step(
+        state: *mut State,
+        mem: *mut u8,
+        mem_size: usize,
+        row: *mut u8,
+        row_size: usize,
+    ) -> u32;
+    /// A run of at most `budget` steps.
+    pub fn phuyurik_run(
+        state: *mut State,
+        mem: *mut u8,
+        mem_size: usize,
+        row: *mut u8,
+        row_size: usize,
+        budget: u64,
+        retired: *mut u64,
+    ) -> u32;
+    /// A state into a slot.
+    pub fn phuyurik_write_slot(
+        state: *const State,
+        slots: *mut u8,
+        slots_size: usize,
+        k: usize,
+    ) -> u32;
+    /// The state in a slot.
+    pub fn phuyurik_read_slot(
+        state: *mut State,
+        slots: *const u8,
+        slots_size: usize,
+        k: usize,
+    ) -> u32;
+    /// A run of the state in a slot.
+    pub fn phuyurik_run_slot(
+        mem: *mut u8,
+        mem_size: usize,
+        row: *mut u8,
+        row_size: usize,
+        slots: *mut u8,
+        slots_size: usize,
+        k: usize,
+        budget: u64,
+        retired: *mut u64,
+    ) -> u32;
+}
