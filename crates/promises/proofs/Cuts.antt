@@ -37,7 +37,7 @@ use Rattle.slots.proofs.Slots.{there-fits, slot-set-at, take-before, drop-after
 use Rattle.resume.specs.declared.Resumed.{Resumed}
 use Rattle.resume.specs.declared.Resumed.the-variants as A
 use Rattle.resume.specs.Resuming.{Bench, bench, slotWorld, benchLeft, resumeChecked, resumeGiven, resumeEntry, ofResumed}
-use Rattle.promises.specs.Cuts.{Piece, SlotsThere, leftBy, readBack, cutRun, answers, total, manual, Cut, sumAnswered, RetiredAddsUp, slotStart, slotRun, SlotRunIsPiece, slotRuns, added, SlotRunsAddUp, SlotRunAnswers, SlotsStay, RecordOfState, WritesItsSlot}
+use Rattle.promises.specs.Cuts.{Piece, SlotsThere, leftBy, readBack, cutRun, answers, total, manual, Cut, sumAnswered, RetiredAddsUp, slotStart, slotRun, SlotRunIsRun, slotRuns, added, SlotRunsAddUp, SlotRunAnswers, SlotsStay, RecordOfState, WritesItsSlot}
 use Rattle.promises.proofs.Refusals.{accepted-passes, slot-accepted-passes}
 use Rattle.promises.proofs.Steps.{no-budget, stays-stopped}
 
@@ -128,8 +128,8 @@ module _ (b k : ℕ) (h : Bench) where
       let g : Runnable w = ((bytes-fit (slotAt k (h .slots)) (slot-bytes k (h .slots) sb), r .formed), (f, board-accepted (h .board) Passed l .0)) in
       ap (λ c. resumed c .lent) (board-passed (h .board) _ l ∙ e) ∙ sym (run-left b k (retired b w) h (ran b w) (r .there) (runnable-ran b w g) (run-runs b a g))
 
-pub slot-run-is-piece : SlotRunIsPiece
-slot-run-is-piece b k h f sb = go (boardChecked (h .board) Passed) (readChecked k (h .slots)) refl refl
+pub slot-run-is-run : SlotRunIsRun
+slot-run-is-run b k h f sb = go (boardChecked (h .board) Passed) (readChecked k (h .slots)) refl refl
   where
     go : (c d : Check) → boardChecked (h .board) Passed ≡ c → readChecked k (h .slots) ≡ d → Same b k h
     go (Refused r) d l e = both-refused b k h r r (board-refused (h .board) _ l) (board-refused (h .board) _ l)

@@ -90,8 +90,8 @@ unfoldable pub slotRun : ℕ → ℕ → Bench → Bench
 slotRun b k h = bench (leftBy b (slotStart k h) .board) (writeEntry k (leftBy b (slotStart k h) .st) (h .slots) .lent)
 
 -- is what running the slot leaves, refused or not
-abbrev pub SlotRunIsPiece : Type 0
-SlotRunIsPiece = (b k : ℕ) (h : Bench) → BoardFits (h .board) → AllBelow (2 ^ 8) (h .slots) → resumeEntry b k h .lent ≡ slotRun b k h
+abbrev pub SlotRunIsRun : Type 0
+SlotRunIsRun = (b k : ℕ) (h : Bench) → BoardFits (h .board) → AllBelow (2 ^ 8) (h .slots) → resumeEntry b k h .lent ≡ slotRun b k h
 
 -- a start w, with its state written to slot k
 abbrev pub saved : ℕ → World → List ℕ → Bench
