@@ -4,7 +4,7 @@
 # a folder stands in for the kit, all links but for the compiler, which drops the x86-64 target.
 set -eu
 cd "$(dirname "$0")/.."
-exports='c_codes c_insts c_texts c_slots c_runs c_resume'
+exports='c_codes c_insts c_texts c_slots c_runs'
 machine=$(uname -m)
 
 # link_all FROM TO EXCEPT: a link in TO for each entry of FROM but one
@@ -66,7 +66,7 @@ archive() {
 }
 
 # two at a time; of these two rows neither waits long for the other
-archive c_codes c_texts c_slots c_resume &
+archive c_codes c_texts c_slots &
 archive c_insts c_runs
 wait $!
 

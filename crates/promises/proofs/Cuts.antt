@@ -21,7 +21,8 @@ use Rattle.answers.specs.declared.Check.the-variants.{Passed, Refused}
 use Rattle.word.specs.Bounds.{AllBelow}
 use Rattle.octets.specs.Bytes.{load}
 use Rattle.state.specs.declared.State.{State}
-use Rattle.state.specs.States.{noState, stateChecked}
+use Rattle.state.specs.States.{noState, wellFormed, stateChecked}
+use Rattle.state.proofs.Laws.{malformed}
 use Rattle.boards.specs.Boards.{BoardFits, boardChecked}
 use Rattle.boards.proofs.Boards.{board-refused, board-passed, board-accepted, lendable-passes}
 use Rattle.engine.specs.Steps.{World, world, checked, paused, ran, retired}
@@ -33,11 +34,11 @@ use Rattle.machine.specs.Entries.{ranTo, runGiven, noRun, runEntry, ofRan}
 use Rattle.records.specs.Records.{recordOf}
 use Rattle.records.proofs.Records.{length-record, write-back, bytes-fit}
 use Rattle.slots.specs.Slots.{slotThere, slotAt, slotSet, writeChecked, writeEntry, ofWrite, readChecked, readTo, noRead, readEntry, ofReadBack}
-use Rattle.slots.proofs.Slots.{there-fits, slot-set-at, take-before, drop-after, slot-same, slot-bytes, ReadsWell, reads-well, same-record, SlotHolds, holds-set, read-held, write-passes, check-was, state-was, one-slot-there, one-slot-at, one-slot-set}
+use Rattle.slots.proofs.Slots.{there-fits, slot-set-at, take-before, drop-after, slot-same, slot-bytes, ReadsWell, reads-well, same-record, SlotHolds, holds-set, read-held, write-passes, check-was, state-was, one-slot-there, one-slot-at}
 use Rattle.resume.specs.declared.Resumed.{Resumed}
 use Rattle.resume.specs.declared.Resumed.the-variants as A
 use Rattle.resume.specs.Resuming.{Bench, bench, slotWorld, benchLeft, resumeChecked, resumeGiven, resumeEntry, ofResumed}
-use Rattle.promises.specs.Cuts.{Piece, SlotsThere, leftBy, readBack, cutRun, answers, total, manual, Cut, sumAnswered, RetiredAddsUp, slotStart, slotRun, SlotRunIsPiece, slotRuns, added, SlotRunsAddUp, StateRuns, SlotRunAnswers, SlotsStay, RecordOfState, WritesItsSlot}
+use Rattle.promises.specs.Cuts.{Piece, SlotsThere, leftBy, readBack, cutRun, answers, total, manual, Cut, sumAnswered, RetiredAddsUp, slotStart, slotRun, SlotRunIsRun, slotRuns, answered, slotAnswers, added, SlotRunsAddUp, SlotRunAnswers, SlotsStay, RecordOfState, StateOfRecord, WritesItsSlot}
 use Rattle.promises.proofs.Refusals.{accepted-passes, slot-accepted-passes}
 use Rattle.promises.proofs.Steps.{no-budget, stays-stopped}
 
@@ -128,8 +129,8 @@ module _ (b k : ℕ) (h : Bench) where
       let g : Runnable w = ((bytes-fit (slotAt k (h .slots)) (slot-bytes k (h .slots) sb), r .formed), (f, board-accepted (h .board) Passed l .0)) in
       ap (λ c. resumed c .lent) (board-passed (h .board) _ l ∙ e) ∙ sym (run-left b k (retired b w) h (ran b w) (r .there) (runnable-ran b w g) (run-runs b a g))
 
-pub slot-run-is-piece : SlotRunIsPiece
-slot-run-is-piece b k h f sb = go (boardChecked (h .board) Passed) (readChecked k (h .slots)) refl refl
+pub slot-run-is-run : SlotRunIsRun
+slot-run-is-run b k h f sb = go (boardChecked (h .board) Passed) (readChecked k (h .slots)) refl refl
   where
     go : (c d : Check) → boardChecked (h .board) Passed ≡ c → readChecked k (h .slots) ≡ d → Same b k h
     go (Refused r) d l e = both-refused b k h r r (board-refused (h .board) _ l) (board-refused (h .board) _ l)
@@ -152,35 +153,33 @@ slot-goes b k h s p g =
     ap (resumed b k h) c
     ∙ ap (λ q. outcome (A.Retired (retired b (world q (h .board)))) (benchLeft k (ran b (world q (h .board))) (h .slots))) (sym (state-was k (h .slots) e refl))
 
--- the bench h has the world v: in slot k and on its board
-abbrev Holds : ℕ → Bench → World → Type 0
-Holds k h v = (ofReadBack (readEntry k (h .slots) .answer) ≡ given (v .st)) × (h .board ≡ v .board)
+-- the bench h has the world v, in slot k and on its board, and n were answered where m should be
+abbrev Holds : ℕ → Bench → World → ℕ → ℕ → Type 0
+Holds k h v n m = (ofReadBack (readEntry k (h .slots) .answer) ≡ given (v .st)) × (h .board ≡ v .board) × (n ≡ m)
 
-moved : (k : ℕ) {p q : Bench} {v u : World} → p ≡ q → v ≡ u → Holds k q u → Holds k p v
-moved k c d h = rw (c, d) h
+moved : (k : ℕ) {p q : Bench} {v u : World} {a b c d : ℕ} → p ≡ q → v ≡ u → a ≡ b → d ≡ c → Holds k q u b c → Holds k p v a d
+moved k e f g h i = rw (e, f, g, h) i
 
-slot-ends : (k : ℕ) (bs : List ℕ) (h : Bench) (s : State) → SlotHolds k s (h .slots) → Runnable (world s (h .board)) → Holds k (slotRuns k bs h) (ran (added bs) (world s (h .board)))
-unfolding slotRuns added ran
-slot-ends k [] h s p g = (ap (λ (o : Outcome _ _). ofReadBack (o .answer)) (read-held k s (h .slots) p (g .0 .0) (g .0 .1)), refl)
+slot-ends : (k : ℕ) (bs : List ℕ) (h : Bench) (s : State) → SlotHolds k s (h .slots) → Runnable (world s (h .board))
+    → Holds k (slotRuns k bs h) (ran (added bs) (world s (h .board))) (slotAnswers k bs h) (retired (added bs) (world s (h .board)))
+unfolding slotRuns slotAnswers added ran retired
+slot-ends k [] h s p g = (ap (λ (o : Outcome _ _). ofReadBack (o .answer)) (read-held k s (h .slots) p (g .0 .0) (g .0 .1)), refl, refl)
 slot-ends k (b ∷ bs) h s p g =
     let w : World = world s (h .board) in
     let v : World = ran b w in
     let g′ : Runnable v = runnable-ran b w g in
-    moved k (ap (λ o. slotRuns k bs (o .lent)) (slot-goes b k h s p g)) (ran-add b (added bs) w)
-    (slot-ends k bs (benchLeft k v (h .slots)) (v .st) (holds-set k (v .st) (h .slots) (g′ .0 .0 .x-length) (p .there)) g′)
+    let e = slot-goes b k h s p g in
+    let left : Bench = benchLeft k v (h .slots) in
+    let i = slot-ends k bs left (v .st) (holds-set k (v .st) (h .slots) (g′ .0 .0 .x-length) (p .there)) g′ in
+    moved k (ap (λ o. slotRuns k bs (o .lent)) e) (ran-add b (added bs) w)
+    (ap (λ o. answered (ofResumed (o .answer)) + slotAnswers k bs (o .lent)) e)
+    (retired-add b (added bs) w)
+    (i .0, i .1, ap (λ n. retired b w + n) (i .2))
 
 pub slot-runs-add-up : SlotRunsAddUp
 slot-runs-add-up k bs w slots z a t =
     let g : Runnable w = passes-runnable w z (accepted-passes w a) in
     rw (write-passes k (w .st) slots t (g .0 .1)) (slot-ends k bs (benchLeft k w slots) (w .st) (holds-set k (w .st) slots (z .state-fits .x-length) t) g)
-
-pub state-runs : StateRuns
-state-runs b w z a =
-    let g : Runnable w = passes-runnable w z (accepted-passes w a) in
-    let r : List ℕ = recordOf (w .st) in
-    let l = length-record (w .st) (z .state-fits .x-length) in
-    slot-goes b 0 (bench (w .board) r) (w .st) (record { there = one-slot-there r l; record-held = one-slot-at r l }) g
-    ∙ ap (λ bytes. outcome (A.Retired (retired b w)) (bench (ran b w .board) bytes)) (one-slot-set r l (recordOf (ran b w .st)))
 
 -- ---- a slot as it was
 
@@ -207,6 +206,16 @@ record-of-state r b l h = write-back r l b (go (eqb (load 7 137 r) 0) refl)
     go : (t : Bool) → eqb (load 7 137 r) 0 ≡ t → load 7 137 r ≡ 0
     go true e = eqb-true _ _ e
     go false e = absurd (h (inr (eqb-false _ _ e)))
+
+pub state-of-record : StateOfRecord
+state-of-record s f h =
+    let r : List ℕ = recordOf s in
+    let l = length-record s (f .x-length) in
+    ap (λ o. ofReadBack (o .answer)) (read-held 0 s r (record { there = one-slot-there r l; record-held = one-slot-at r l }) f (go (wellFormed s) refl))
+  where
+    go : (t : Bool) → wellFormed s ≡ t → wellFormed s ≡ true
+    go true e = e
+    go false e = absurd (h (malformed s .0 e))
 
 pub writes-its-slot : WritesItsSlot
 unfolding decided

@@ -107,4 +107,4 @@ short-acts-as-long i pc x m2 m4 b l2 short l4 long =
       le-leb (pc + 4) _ l4,
       legal-is (decoded word) i d,
     )
-    (length-only i 2 4 pc x b)
+    (refl, refl, length-only i 2 4 pc x b)

@@ -1,5 +1,5 @@
 -- "Show that any two outcomes it allows are equal": the contract of a public function is one equation, of a bundle of its result and of each lent buffer as the call leaves it, to what a definition says of its input. Equal bundles have equal parts.
--- Each statement is proved in proofs/Contracts.antt; that every public contract is such an equation is seen by host/tests/contracts.rs.
+-- Each statement is proved in proofs/Contracts.antt; that every public contract is such an equation is seen by host/contracts.
 use mathlib.Core.Path.{_≡_}
 use mathlib.Core.List.{List}
 use Prim.Native.Nat.{ℕ}

@@ -18,7 +18,7 @@ use Rattle.records.specs.Records.{recordOf, stateOf}
 use Rattle.slots.specs.Slots.{slotThere, slotAt, writeEntry, ofWrite, readEntry, ofReadBack}
 use Rattle.resume.specs.Resuming.{Bench, bench, slotWorld, resumeEntry, ofResumed}
 use Rattle.resume.specs.declared.Resumed.the-variants.{Retired}
-use Rattle.promises.specs.Refusals.{resumeRows, RecordMalformed}
+use Rattle.promises.specs.Refusals.{resumeRows, Malformed, RecordMalformed}
 use Rattle.promises.specs.Steps.{Accepted}
 
 -- ---- a run that is cut
@@ -90,8 +90,8 @@ unfoldable pub slotRun : ℕ → ℕ → Bench → Bench
 slotRun b k h = bench (leftBy b (slotStart k h) .board) (writeEntry k (leftBy b (slotStart k h) .st) (h .slots) .lent)
 
 -- is what running the slot leaves, refused or not
-abbrev pub SlotRunIsPiece : Type 0
-SlotRunIsPiece = (b k : ℕ) (h : Bench) → BoardFits (h .board) → AllBelow (2 ^ 8) (h .slots) → resumeEntry b k h .lent ≡ slotRun b k h
+abbrev pub SlotRunIsRun : Type 0
+SlotRunIsRun = (b k : ℕ) (h : Bench) → BoardFits (h .board) → AllBelow (2 ^ 8) (h .slots) → resumeEntry b k h .lent ≡ slotRun b k h
 
 -- a start w, with its state written to slot k
 abbrev pub saved : ℕ → World → List ℕ → Bench
@@ -102,16 +102,26 @@ unfoldable pub slotRuns : ℕ → List ℕ → Bench → Bench
 slotRuns k [] h = h
 slotRuns k (b ∷ bs) h = slotRuns k bs (resumeEntry b k h .lent)
 
+-- the numbers retired that these runs answer, added up
+abbrev pub answered : Answer ℕ → ℕ
+answered (given n) = n
+answered (refusedWith n) = 0
+
+unfoldable pub slotAnswers : ℕ → List ℕ → Bench → ℕ
+slotAnswers k [] h = 0
+slotAnswers k (b ∷ bs) h = answered (ofResumed (resumeEntry b k h .answer)) + slotAnswers k bs (resumeEntry b k h .lent)
+
 unfoldable pub added : List ℕ → ℕ
 added [] = 0
 added (b ∷ bs) = b + added bs
 
--- a start that is written to slot k and run there, time after time, ends as the manual's steps under the whole budget: the slot reads as their state, and the board is theirs
+-- a start that is written to slot k and run there, time after time, ends as the manual's steps under the whole budget: the slot reads as their state, the board is theirs, and the numbers answered add up to theirs
 abbrev pub SlotRunsAddUp : Type 0
 SlotRunsAddUp =
     (k : ℕ) (bs : List ℕ) (w : World) (slots : List ℕ) → Sized w → Accepted w → slotThere k slots ≡ true
     → (ofReadBack (readEntry k (slotRuns k bs (saved k w slots) .slots) .answer) ≡ given (ran (added bs) w .st))
     × (slotRuns k bs (saved k w slots) .board ≡ ran (added bs) w .board)
+    × (slotAnswers k bs (saved k w slots) ≡ retired (added bs) w)
 
 -- no row of the table holds for a slot that is to run
 abbrev pub SlotAccepted : ℕ → Bench → Type 0
@@ -127,17 +137,15 @@ SlotsStay =
     (b k : ℕ) (h : Bench) → AllBelow (2 ^ 8) (h .slots) → SlotAccepted k h → (b ≡ 0) ⊎ (paused (slotWorld k h) ≡ false)
     → resumeEntry b k h ≡ outcome (Retired 0) h
 
--- a state that is lent as its record, a buffer of one slot, runs as by `run`: the number retired is answered, and the record of the last state is left
-abbrev pub StateRuns : Type 0
-StateRuns =
-    (b : ℕ) (w : World) → Sized w → Accepted w
-    → resumeEntry b 0 (bench (w .board) (recordOf (w .st))) ≡ outcome (Retired (retired b w)) (bench (ran b w .board) (recordOf (ran b w .st)))
-
 -- ---- one slot
 
 -- 144 bytes that are not malformed are the record of the state that they say
 abbrev pub RecordOfState : Type 0
 RecordOfState = (r : List ℕ) → AllBelow (2 ^ 8) r → length r ≡ 144 → (RecordMalformed r → ⊥) → recordOf (stateOf r) ≡ r
+
+-- a record alone is a buffer of one slot, and reads as its state: so is a state lent to the C interface
+abbrev pub StateOfRecord : Type 0
+StateOfRecord = (s : State) → Fits s → (Malformed s → ⊥) → ofReadBack (readEntry 0 (recordOf s) .answer) ≡ given s
 
 -- writing slot k changes only bytes 144k to 144k + 143, which are then the state's record
 abbrev pub WritesItsSlot : Type 0

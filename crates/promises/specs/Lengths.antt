@@ -67,10 +67,12 @@ effectOf i len pc x b = performed (actFetched (Instruction i len) pc x) b
 abbrev pub LengthOnly : Type 0
 LengthOnly = (i : Inst) (m n pc : ℕ) (x : List ℕ) (b : Board) → effectOf i m pc x b ≡ butForLength i x (sum pc m) (effectOf i n pc x b)
 
--- where m2 has at pc a halfword that stands for i, and m4 has there the word of i: what the bytes of m2 ask for does, on any memory and row, what the bytes of m4 ask for does there, but for the length
+-- where m2 has at pc a halfword that stands for i, and m4 has there the word of i: on any memory and row, what the bytes of m2 ask for does what i does in 2 bytes, what those of m4 ask for does what i does in 4, and the two are the same but for the length
 abbrev pub ShortActsAsLong : Type 0
 ShortActsAsLong =
     (i : Inst) (pc : ℕ) (x m2 m4 : List ℕ) (b : Board)
     → pc + 2 ≤ length m2 → expands (load 2 pc m2) ≡ given i
     → pc + 4 ≤ length m4 → encodes i ≡ given (load 4 pc m4)
-    → performed (actAt pc x m2) b ≡ butForLength i x (sum pc 2) (performed (actAt pc x m4) b)
+    → (performed (actAt pc x m2) b ≡ effectOf i 2 pc x b)
+    × (performed (actAt pc x m4) b ≡ effectOf i 4 pc x b)
+    × (performed (actAt pc x m2) b ≡ butForLength i x (sum pc 2) (performed (actAt pc x m4) b))

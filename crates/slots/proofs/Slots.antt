@@ -4,9 +4,9 @@ use native.Mathlib.Omega.{arith}
 use mathlib.Core.Path.{_≡_, refl, sym, ap, _∙_}
 use mathlib.Core.Bool.{Bool, true, false, not, and-eq-true-iff}
 use mathlib.Core.Logic.{_↔_, _⊎_}
-use mathlib.Core.List.{List, _++_, append-assoc, append-nil}
+use mathlib.Core.List.{List, _++_, append-assoc}
 use lib.ListN.{length, take, drop, length-append, length-take, length-drop, take-append-drop}
-use lib.Seq.{length-take-le, take-add, take-at, drop-at, take-all, drop-length}
+use lib.Seq.{length-take-le, take-add, take-at, drop-at, take-all}
 use lib.Dec.{eqb, ltb}
 use borrow.Author.Tests.{eqb-true, eqb-false, ne-eqb, ltb-true, ltb-false, le-ltb, not-false}
 use Rattle.word.specs.Bounds.{AllBelow}
@@ -76,9 +76,6 @@ module _ (r : List ℕ) (l : length r ≡ 144) where
 
   pub one-slot-at : slotAt 0 r ≡ r
   one-slot-at = take-all 144 r (omega (arith, l))
-
-  pub one-slot-set : (bytes : List ℕ) → slotSet 0 bytes r ≡ bytes
-  one-slot-set bytes = ap (λ rest. bytes ++ rest) (rw l at (drop-length r)) ∙ append-nil bytes
 
 -- ---- which slots are refused
 

@@ -11,7 +11,7 @@ struct Saved {
     mem: Vec<u8>,
     row: Vec<u8>,
     buffers: [Vec<u8>; 2],
-    /// What the buffers must have in every slot that the run was never saved to.
+    /// What the buffers had at the start, with each record that was saved since in its slot.
     kept: [Vec<u8>; 2],
     buffer: usize,
     slot: usize,

@@ -12,6 +12,8 @@ pub struct Contract {
     pub name: String,
     /// The parameters that are lent to be changed.
     pub lent: Vec<String>,
+    /// How often `&mut` stands in the signature.
+    pub mutable: usize,
     /// Whether it answers anything.
     pub answers: bool,
     pub requires: Vec<String>,
@@ -89,6 +91,7 @@ fn contract(owner: &str, head: &str) -> Contract {
     Contract {
         name: format!("{owner}{name}"),
         lent: lent(rest.split_once(')').expect("the parameters' end").0),
+        mutable: signature.matches("&mut").count(),
         answers: signature.contains("->"),
         requires: clauses("requires"),
         ensures: clauses("ensures"),
@@ -109,6 +112,9 @@ const BUNDLES: [&str; 6] = ["outcome", "world", "board", "bench", "state", "tt"]
 impl Contract {
     /// What is wrong with its form, if anything.
     pub fn flaw(&self) -> Option<&'static str> {
+        if self.lent.len() != self.mutable {
+            return Some("something is lent that was not read");
+        }
         let [ensures] = &self.ensures[..] else {
             return Some("not one ensures");
         };
@@ -122,6 +128,9 @@ impl Contract {
         let [left, right] = sides[..] else {
             return Some("not one equation");
         };
+        if !is_whole(left) || !is_whole(right) {
+            return Some("the equation is a part of something else");
+        }
         self.bundle_flaw(result, left).or(input_flaw(result, right))
     }
 
@@ -158,10 +167,24 @@ impl Contract {
     }
 }
 
-/// The right side speaks of the input alone.
+/// The right side speaks of the input alone: a buffer in it is the buffer at entry.
 fn input_flaw(result: &str, right: &str) -> Option<&'static str> {
     let speaks = right.contains(".exit") || words(right).any(|word| word == result);
-    speaks.then_some("the right speaks of the outcome")
+    let times = right.matches("now ").count() != right.matches(" .entry)").count();
+    (speaks || times).then_some("the right speaks of the outcome")
+}
+
+/// One side of an equation and nothing beside it: its brackets match, and nothing joins it to
+/// another claim.
+fn is_whole(side: &str) -> bool {
+    let mut depth = 0i32;
+    for letter in side.chars() {
+        depth += i32::from(letter == '(') - i32::from(letter == ')');
+        if depth < 0 || "→↔⊎×≤<∀Σ".contains(letter) {
+            return false;
+        }
+    }
+    depth == 0
 }
 
 /// `λ r. ⌜ CLAIM ⌝` as r and the claim.

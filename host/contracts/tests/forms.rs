@@ -18,15 +18,51 @@ fn every_public_contract_is_an_equation() {
     }
 }
 
+// What a host calls, besides the exports.
+const ENTRIES: [&str; 17] = [
+    "machine::step",
+    "machine::run",
+    "slots::write_slot",
+    "slots::read_slot",
+    "resume::run_slot",
+    "boards::check_board",
+    "fuses::check_row",
+    "disassembler::text_of_word",
+    "disassembler::text_of_half",
+    "disassembler::text_of",
+    "listing::list",
+    "builder::inst_of",
+    "chart::chart",
+    "decoder::decode",
+    "encoder::encode",
+    "expander::expand",
+    "shortener::shorten",
+];
+
 #[test]
-fn exports_ask_nothing() {
+fn entries_and_exports_ask_nothing() {
     let all = all();
-    let exports: Vec<_> = all.iter().filter(|c| c.name.starts_with("c_")).collect();
-    assert!(exports.len() > 10, "only {} exports", exports.len());
-    for c in exports {
-        assert!(c.name.contains("::phuyurik_"), "{}", c.name);
+    let is_export = |c: &Contract| c.name.contains("::phuyurik_");
+    let called: Vec<_> = all
+        .iter()
+        .filter(|c| is_export(c) || ENTRIES.contains(&c.name.as_str()))
+        .collect();
+    for entry in ENTRIES {
+        assert!(called.iter().any(|c| c.name == entry), "{entry} is missing");
+    }
+    for c in called {
         assert!(c.requires.is_empty(), "{}", c.name);
     }
+    for c in all.iter().filter(|c| c.name.starts_with("c_")) {
+        assert!(is_export(c), "{}", c.name);
+    }
+}
+
+#[test]
+fn what_is_lent_is_read() {
+    let methods =
+        "impl S {\n    pub fn f(&mut self) -> u8\n        ensures { λ r. ⌜ r ≡ s ⌝ }\n    {\n";
+    assert!(contracts("some", methods)[0].flaw().is_some());
 }
 
 #[test]
@@ -80,6 +116,18 @@ fn other_forms_are_flaws() {
             " -> u8",
             "λ r. ⌜ outcome r (now (m .exit)) ≡ f (now (m .exit)) ⌝",
         ),
+        // an equation that is only a part: of an or, of a negation
+        (
+            " -> u8",
+            "λ r. ⌜ (outcome r (now (m .exit)) ≡ f s) ⊎ Unit {0} ⌝",
+        ),
+        (
+            " -> u8",
+            "λ r. ⌜ outcome r (now (m .exit)) ≡ f s ⊎ (s < 4) ⌝",
+        ),
+        (" -> u8", "λ r. ⌜ outcome r (now (m .exit)) ≡ f s → ⊥ ⌝"),
+        // a buffer at no time
+        (" -> u8", "λ r. ⌜ outcome r (now (m .exit)) ≡ f (now m) ⌝"),
         // an unknown predicate
         (" -> u8", "λ r. ⌜ Good r (now (m .exit)) ⌝"),
         // a writer that leaves its end free

@@ -1,5 +1,5 @@
 -- `phuyurik_write_slot` meets its contract: what was read of the record goes into the slot, and the check that the writing answers decides. Assumes nothing.
-use mathlib.Core.Path.{sym, ap, _∙_}
+use mathlib.Core.Path.{ap, _∙_}
 use borrow.Author.Needs.{needs}
 use Rattle.answers.specs.Outcomes.{Outcome}
 use Rattle.answers.specs.Replies.{called}

@@ -3,8 +3,8 @@ use mathlib.Core.Path.{ap}
 use borrow.Author.Needs.{needs}
 use Rattle.answers.specs.Replies.{called}
 use Rattle.resume.specs.Resuming.{ofResumed}
-use Rattle.c_resume.proofs.phuyurik_run_slot.Statement.{statement}
-use Rattle.c_resume.proofs.phuyurik_run_slot.Tie as tie
+use Rattle.c_runs.proofs.phuyurik_run_slot.Statement.{statement}
+use Rattle.c_runs.proofs.phuyurik_run_slot.Tie as tie
 
 returns : tie.Need-returns
 returns c = ap (called ofResumed _) (rw (c .before .n .given .1) at (c .before .before .before .before .before .before .before .before .before .run-slot .ensures))
