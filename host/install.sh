@@ -12,10 +12,15 @@ to=${DESTDIR:-}$prefix
 header=include/phuyurik.h
 number() { sed -n "s/^#define PHUYURIK_VERSION_$1 \([0-9]*\)$/\1/p" $header; }
 
+tool=${CARGO_TARGET_DIR:-host/target}/release/phuyurik
+for file in $header target/staticlib/libphuyurik.a "$tool"; do
+    [ -f "$file" ] || { echo "there is no $file to install: make install" >&2; exit 1; }
+done
+
 mkdir -p "$to/include" "$to/lib/pkgconfig" "$to/bin"
 cp $header "$to/include/phuyurik.h"
 cp target/staticlib/libphuyurik.a "$to/lib/libphuyurik.a"
-cp "${CARGO_TARGET_DIR:-host/target}/release/phuyurik" "$to/bin/phuyurik"
+cp "$tool" "$to/bin/phuyurik"
 cat >"$to/lib/pkgconfig/phuyurik.pc" <<END
 prefix=$prefix
 includedir=\${prefix}/include

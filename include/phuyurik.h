@@ -3,13 +3,14 @@
  *
  * Every function that can refuse returns PHUYURIK_ACCEPTED, which is 0, or a refusal. A refusal says
  * nothing else: every buffer and every place that was lent to the call is as it was. Where more than
- * one refusal applies, the lowest number is given. No input is forbidden, but for what C itself asks:
+ * one refusal applies, the first in the order that the function names is given. Later versions add
+ * refusals and stops: a switch over them has a default. No input is forbidden, but for what C asks:
  * a pointer points to as many bytes as its size says (where that is 0 it may be NULL), a place for a
  * value is there, and what a call may write overlaps nothing else that the call is given. No function
  * keeps a pointer, allocates, or has state of its own, so calls on different buffers may run at the
  * same time.
  *
- * Buffers come in one order in every call: state, memory, row, slots.
+ * Buffers come in one order in every call: state, memory, row, slots. For C11 and C++11 or later.
  */
 #ifndef PHUYURIK_H
 #define PHUYURIK_H
@@ -233,8 +234,10 @@ phuyurik_refusal phuyurik_list(const uint8_t *image, size_t image_size, size_t f
 /* ---- states
  *
  * A state is pc, x1 to x31, the retired count and a stop number. Its bytes in memory are those of its
- * record in a slot. The fresh state is all zero: `phuyurik_state state = {0};` in C, `{}` in C++. A
- * state with an odd pc, a stop number above 10 or a `zero` that is not zero is malformed. */
+ * record in a slot (copy them, or use phuyurik_read_slot: a pointer into slots is no pointer to a
+ * state). The fresh state is all zero: `phuyurik_state state = {0};` in C, `{}` in C++. A state with an
+ * odd pc, a stop number above 10 or a `zero` that is not zero is malformed. Programs do not name
+ * `zero`: a later version gives its last four bytes a meaning. */
 
 typedef struct phuyurik_state {
     uint32_t pc;
@@ -248,10 +251,20 @@ PHUYURIK_ASSERT(sizeof(phuyurik_state) == PHUYURIK_RECORD_SIZE, "a state is its 
 PHUYURIK_ASSERT(offsetof(phuyurik_state, x) == 4, "x1 stands at byte 4");
 PHUYURIK_ASSERT(offsetof(phuyurik_state, count) == 128, "the count stands at byte 128");
 PHUYURIK_ASSERT(offsetof(phuyurik_state, stop) == 136, "the stop number stands at byte 136");
+PHUYURIK_ASSERT(offsetof(phuyurik_state, zero) == 137, "the rest stands at byte 137");
+PHUYURIK_ASSERT(sizeof(phuyurik_inst) == 20, "an instruction is five numbers in a row");
 
 /* Register n, 0 to 31, of a state; x0 is 0. Of a number above 31 it is 0, too. */
 static inline uint32_t phuyurik_reg(const phuyurik_state *state, unsigned n) {
     return n >= 1 && n <= 31 ? state->x[n - 1] : 0;
+}
+
+/* Gives a state this stop, also to let one go on that has stopped (PHUYURIK_PAUSED). Programs set a
+ * stop so and not by the field: what belongs to the old stop goes with it. */
+static inline void phuyurik_set_stop(phuyurik_state *state, phuyurik_stop stop) {
+    size_t i;
+    state->stop = (uint8_t)stop;
+    for (i = 0; i < sizeof state->zero; i++) state->zero[i] = 0;
 }
 
 /* ---- rows
@@ -264,9 +277,9 @@ static inline int phuyurik_is_burnt(const uint8_t *row, unsigned k) {
     return k < PHUYURIK_WORDS && row[8 * k + 4] == 1;
 }
 
-/* The value of word k of a row, 0 if it is blank. k is 0 to 63; the value of any other is 0. */
+/* The value of word k of a row, 0 if it is not burnt. k is 0 to 63; the value of any other is 0. */
 static inline uint32_t phuyurik_word(const uint8_t *row, unsigned k) {
-    if (k >= PHUYURIK_WORDS) return 0;
+    if (!phuyurik_is_burnt(row, k)) return 0;
     row += 8 * k;
     return (uint32_t)row[0] | (uint32_t)row[1] << 8 | (uint32_t)row[2] << 16 | (uint32_t)row[3] << 24;
 }

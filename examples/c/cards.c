@@ -1,5 +1,5 @@
-/* Through the C interface: the paper's cards 1, 11 (also with a budget of 3) and 12, the recipe in
- * pieces through a slot, its listing, and two refusals. Valid C11 and C++17. */
+/* Through the C interface: the paper's cards 1, 3, 7, 10, 11 (also with a budget of 3) and 12, the
+ * recipe in pieces through a slot, its listing, and two refusals. Valid C11 and C++17. */
 #include <phuyurik.h>
 
 #include <stdio.h>
@@ -29,6 +29,42 @@ static void show(const char *name, uint64_t retired, const struct bench *b) {
 
 static phuyurik_refusal run(struct bench *b, uint64_t budget, uint64_t *retired) {
     return phuyurik_run(&b->state, b->memory, sizeof b->memory, b->row, sizeof b->row, budget, retired);
+}
+
+/* Cards 1, 3 and 7: bits to instructions and back. */
+static int codes(void) {
+    phuyurik_inst inst;
+    uint32_t word = 0;
+    uint16_t half = 0;
+    uint8_t format = 0;
+    if (phuyurik_chart(0x00A00513, &format) || phuyurik_decode(0x00A00513, &inst)) return 1;
+    if (phuyurik_encode(&inst, &word)) return 1;
+    printf("card 1: class %u, addi %d, rd %u, rs1 %u, immediate %u, word %08x\n", (unsigned)format,
+           inst.operation == PHUYURIK_OP_ADDI, (unsigned)inst.rd, (unsigned)inst.rs1, (unsigned)inst.imm,
+           (unsigned)word);
+    if (phuyurik_expand(0x429D, &inst)) return 1;
+    printf("card 3: rd %u, rs1 %u, immediate %u\n", (unsigned)inst.rd, (unsigned)inst.rs1,
+           (unsigned)inst.imm);
+    if (phuyurik_expand(0x6141, &inst) || phuyurik_shorten(&inst, &half)) return 1;
+    printf("card 7: %04x\n", (unsigned)half);
+    return 0;
+}
+
+/* Card 10: jalr x1,3(x1) at 0x20 with x1 = 0x10; and registers by number. */
+static int card_10(struct bench *b) {
+    static const uint8_t jalr[4] = {0xE7, 0x80, 0x30, 0x00};
+    uint8_t memory[0x24] = {0};
+    memcpy(memory + 0x20, jalr, sizeof jalr);
+    start(b);
+    memset(b->row, 0, sizeof b->row);
+    b->state.pc = 0x20;
+    b->state.x[0] = 0x10;
+    b->state.x[30] = 31;
+    if (phuyurik_step(&b->state, memory, sizeof memory, b->row, sizeof b->row)) return 1;
+    printf("card 10: pc 0x%x, x1 0x%x, x0 %u, x31 %u, no x32 %u\n", (unsigned)b->state.pc,
+           (unsigned)phuyurik_reg(&b->state, 1), (unsigned)phuyurik_reg(&b->state, 0),
+           (unsigned)phuyurik_reg(&b->state, 31), (unsigned)phuyurik_reg(&b->state, 32));
+    return 0;
 }
 
 /* Card 11: on a blank row, with a budget. */
@@ -104,7 +140,7 @@ int main(void) {
     if (phuyurik_version() != PHUYURIK_VERSION) return 1;
     if (phuyurik_text_of_word(0x00A00513, room, sizeof room, &length)) return 1;
     printf("card 1: %.*s\n", (int)length, (const char *)room);
-    if (card_11(&b, 100) || card_12(&b) || card_11(&b, 3) || in_pieces(&b)) return 1;
+    if (codes() || card_10(&b) || card_11(&b, 100) || card_12(&b) || card_11(&b, 3) || in_pieces(&b)) return 1;
     list(recipe, sizeof recipe);
     refusals(&b);
     return 0;

@@ -20,6 +20,9 @@ static void runs(void) {
     uint8_t slots[PHUYURIK_RECORD_SIZE] = {0};
     uint64_t retired = 77;
     memset(&state, 0, sizeof state);
+    expect("a step with no memory", phuyurik_step(&state, NULL, 0, row, sizeof row), 0);
+    expect("its stop", state.stop, PHUYURIK_FETCH_OUTSIDE);
+    phuyurik_set_stop(&state, PHUYURIK_PAUSED);
     expect("a step with no row", phuyurik_step(&state, NULL, 0, NULL, 0), PHUYURIK_ROW_LENGTH);
     expect("a run with no row", phuyurik_run(&state, NULL, 0, NULL, 0, 9, &retired), PHUYURIK_ROW_LENGTH);
     expect("a run of no slots", phuyurik_run_slot(NULL, 0, row, sizeof row, NULL, 0, 0, 9, &retired),

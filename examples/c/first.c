@@ -8,8 +8,9 @@ int main(void) {
     uint8_t row[PHUYURIK_ROW_SIZE] = {0};
     phuyurik_state state = {0};
     uint64_t retired;
-    phuyurik_refusal refusal =
-        phuyurik_run(&state, memory, sizeof memory, row, sizeof row, 100, &retired);
+    phuyurik_refusal refusal;
+    if (phuyurik_version() != PHUYURIK_VERSION) return 1;
+    refusal = phuyurik_run(&state, memory, sizeof memory, row, sizeof row, 100, &retired);
     if (refusal != PHUYURIK_ACCEPTED) {
         fprintf(stderr, "refused: %s\n", phuyurik_refusal_text(refusal));
         return 1;

@@ -148,6 +148,19 @@ impl<'a> Board<'a> {
         self.memory
     }
 
+    /// The memory, to be written between runs: what a recipe asked for with an ecall, say.
+    ///
+    /// ```
+    /// use phuyurik::{Board, Row};
+    /// let (mut memory, mut row) = ([0; 4], Row::default());
+    /// let mut board = Board::new(&mut memory, &mut row);
+    /// board.memory_mut()[0] = 7;
+    /// assert_eq!(memory, [7, 0, 0, 0]);
+    /// ```
+    pub fn memory_mut(&mut self) -> &mut [u8] {
+        self.memory
+    }
+
     /// The row as it is now.
     ///
     /// ```

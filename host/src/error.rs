@@ -28,7 +28,8 @@ pub enum Error {
 }
 
 impl Error {
-    /// The refusal, if it is one.
+    /// The refusal, if it is one. Later versions may tell more about a refusal, in cases of their own:
+    /// programs ask here which it was.
     ///
     /// ```
     /// use phuyurik::{Error, Refusal};

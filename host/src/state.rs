@@ -30,8 +30,7 @@ pub struct State {
     x: [u32; 31],
     /// The steps retired so far.
     pub count: u64,
-    /// The number of the stop, as [`Stop::number`] gives it; [`State::stop`] reads it.
-    pub stop_number: u8,
+    stop_number: u8,
     zero: [u8; 7],
 }
 
@@ -69,23 +68,47 @@ impl State {
     /// use phuyurik::{State, Stop};
     /// let mut state = State::fresh();
     /// assert_eq!(state.stop(), Ok(Stop::Paused));
-    /// state.stop_number = 11;
+    /// state.set_stop_number(11);
     /// assert_eq!(state.stop().unwrap_err().to_string(), "no stop has the number 11");
     /// ```
     pub fn stop(&self) -> Result<Stop, UnknownNumber> {
         Stop::try_from(self.stop_number)
     }
 
-    /// Puts the stop's number into the state.
+    /// Gives the state this stop, also to let one go on that has stopped. What belongs to the old
+    /// stop goes with it.
     ///
     /// ```
     /// use phuyurik::{State, Stop};
     /// let mut state = State::fresh();
     /// state.set_stop(Stop::Ebreak);
-    /// assert_eq!(state.stop_number, 2);
+    /// assert_eq!(state.stop_number(), 2);
     /// ```
     pub fn set_stop(&mut self, stop: Stop) {
-        self.stop_number = stop.number();
+        self.set_stop_number(stop.number());
+    }
+
+    /// The number of the stop, as [`Stop::number`] gives it, whatever it is.
+    ///
+    /// ```
+    /// assert_eq!(phuyurik::State::fresh().stop_number(), 0);
+    /// ```
+    pub const fn stop_number(&self) -> u8 {
+        self.stop_number
+    }
+
+    /// As [`State::set_stop`], with any number: one of no stop makes the state malformed.
+    ///
+    /// ```
+    /// use phuyurik::{Board, Refusal, Row, State};
+    /// let mut state = State::fresh();
+    /// state.set_stop_number(200);
+    /// let refused = Board::new(&mut [], &mut Row::default()).step(&mut state);
+    /// assert_eq!(refused, Err(Refusal::State.into()));
+    /// ```
+    pub fn set_stop_number(&mut self, number: u8) {
+        self.stop_number = number;
+        self.zero = [0; 7];
     }
 
     /// Register `n`; x0 is 0.
@@ -164,7 +187,7 @@ impl State {
     /// let mut bytes = [0; RECORD];
     /// bytes[136] = 200;
     /// let state = State::from_bytes(bytes);
-    /// assert_eq!(state.stop_number, 200);
+    /// assert_eq!(state.stop_number(), 200);
     /// assert_eq!(state.to_bytes(), bytes);
     /// ```
     pub fn from_bytes(bytes: [u8; RECORD]) -> State {

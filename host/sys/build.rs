@@ -8,8 +8,8 @@ fn folder() -> PathBuf {
     let package = PathBuf::from(env::var_os("CARGO_MANIFEST_DIR").unwrap_or_default());
     let host = package.parent().unwrap_or(&package);
     match env::var_os("PHUYURIK_ARCHIVE") {
-        Some(folder) => host.join(folder),
-        None => host.parent().unwrap_or(host).join("target/staticlib"),
+        Some(folder) if !folder.is_empty() => host.join(folder),
+        _ => host.parent().unwrap_or(host).join("target/staticlib"),
     }
 }
 

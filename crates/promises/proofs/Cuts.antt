@@ -7,8 +7,8 @@ use mathlib.Core.List.{List, [], _∷_}
 use Prim.Native.Nat.{ℕ, _+_, _*_, _^_}
 use native.Mathlib.Omega.{arith}
 use lib.ListN.{take, drop}
-use lib.Dec.{eqb}
-use borrow.Author.Tests.{eqb-true, eqb-false}
+use lib.Dec.{eqb, lit<}
+use borrow.Author.Tests.{eqb-true, eqb-false, ne-eqb}
 use Rattle.answers.specs.Answer.{given}
 use Rattle.answers.specs.Checks.{unless}
 use Rattle.answers.specs.Outcomes.{Outcome, outcome, decided}
@@ -19,6 +19,7 @@ use Rattle.answers.specs.declared.Refusal.the-variants as R
 use Rattle.answers.specs.declared.Check.{Check}
 use Rattle.answers.specs.declared.Check.the-variants.{Passed, Refused}
 use Rattle.word.specs.Bounds.{AllBelow}
+use Rattle.word.proofs.Bools.{and-fails}
 use Rattle.octets.specs.Bytes.{load}
 use Rattle.state.specs.declared.State.{State}
 use Rattle.state.specs.States.{noState, wellFormed, stateChecked}
@@ -31,14 +32,14 @@ use Rattle.engine.proofs.Kept.{Runnable, runnable-passes, passes-runnable, runn
 use Rattle.machine.specs.declared.Ran.{Ran}
 use Rattle.machine.proofs.Entries.{run-accepted}
 use Rattle.machine.specs.Entries.{ranTo, runGiven, noRun, runEntry, ofRan}
-use Rattle.records.specs.Records.{recordOf}
+use Rattle.records.specs.Records.{recordOf, stateOf, recordSound}
 use Rattle.records.proofs.Records.{length-record, write-back, bytes-fit}
 use Rattle.slots.specs.Slots.{slotThere, slotAt, slotSet, writeChecked, writeEntry, ofWrite, readChecked, readTo, noRead, readEntry, ofReadBack}
 use Rattle.slots.proofs.Slots.{there-fits, slot-set-at, take-before, drop-after, slot-same, slot-bytes, ReadsWell, reads-well, same-record, SlotHolds, holds-set, read-held, write-passes, check-was, state-was, one-slot-there, one-slot-at}
 use Rattle.resume.specs.declared.Resumed.{Resumed}
 use Rattle.resume.specs.declared.Resumed.the-variants as A
 use Rattle.resume.specs.Resuming.{Bench, bench, slotWorld, benchLeft, resumeChecked, resumeGiven, resumeEntry, ofResumed}
-use Rattle.promises.specs.Cuts.{Piece, SlotsThere, leftBy, readBack, cutRun, answers, total, manual, Cut, sumAnswered, RetiredAddsUp, slotStart, slotRun, SlotRunIsRun, slotRuns, answered, slotAnswers, added, SlotRunsAddUp, SlotRunAnswers, SlotsStay, RecordOfState, StateOfRecord, WritesItsSlot}
+use Rattle.promises.specs.Cuts.{Piece, SlotsThere, leftBy, readBack, cutRun, answers, total, manual, Cut, sumAnswered, RetiredAddsUp, slotStart, slotRun, SlotRunIsRun, slotRuns, answered, slotAnswers, added, SlotRunsAddUp, SlotRunAnswers, SlotsStay, RecordOfState, StateOfRecord, NoStateOfRecord, WritesItsSlot}
 use Rattle.promises.proofs.Refusals.{accepted-passes, slot-accepted-passes}
 use Rattle.promises.proofs.Steps.{no-budget, stays-stopped}
 
@@ -216,6 +217,12 @@ state-of-record s f h =
     go : (t : Bool) → wellFormed s ≡ t → wellFormed s ≡ true
     go true e = e
     go false e = absurd (h (malformed s .0 e))
+
+pub no-state-of-record : NoStateOfRecord
+unfolding decided
+no-state-of-record r l h =
+    let f : recordSound r ≡ false = and-fails (wellFormed (stateOf r)) (eqb (load 7 137 r) 0) (malformed (stateOf r)) (eqb-false _ _, ne-eqb _ _) .1 h in
+    rw (one-slot-there r l, one-slot-at r l, f) (inr (lit< tt))
 
 pub writes-its-slot : WritesItsSlot
 unfolding decided

@@ -89,7 +89,7 @@ fn plain_state(s: &State) -> plain::State {
         pc: s.pc,
         x: s.registers(),
         count: s.count,
-        stop: s.stop_number,
+        stop: s.stop_number(),
     }
 }
 
@@ -104,7 +104,7 @@ fn compare(mut s: State, memory: &[u8], row: &[u8], budget: u64) -> (u8, u64) {
     assert_eq!(plain_state(&s), s_b);
     assert_eq!(memory_a, memory_b);
     assert_eq!(row_a, row_b);
-    (s.stop_number, retired_b)
+    (s.stop_number(), retired_b)
 }
 
 #[test]

@@ -83,7 +83,8 @@ fn run_plain(memory: &mut [u8], row: &mut [u8]) -> (State, u64, Duration) {
 /// A state of the parts that every engine has; `x` is x1 and what follows it.
 pub fn state(pc: u32, x: &[u32], count: u64, stop: u8) -> State {
     let mut s = State::fresh();
-    (s.pc, s.count, s.stop_number) = (pc, count, stop);
+    (s.pc, s.count) = (pc, count);
+    s.set_stop_number(stop);
     for (n, value) in (1..).zip(x) {
         s.set_reg(n, *value);
     }

@@ -31,7 +31,7 @@ pub fn measure(workload: &Workload, repeats: u32) -> Result<Measured, String> {
     }
     let end = agreed.ok_or("nothing was run")?;
     if end.state.stop() != Ok(phuyurik::Stop::Ecall) {
-        let stop = end.state.stop_number;
+        let stop = end.state.stop_number();
         return Err(format!("{}: stop {stop}, not ecall", workload.name));
     }
     Ok(Measured {
@@ -46,7 +46,7 @@ fn difference(a: &End, b: &End) -> Option<&'static str> {
         (a.state.pc != b.state.pc, "pc"),
         (a.state.registers() != b.state.registers(), "register"),
         (a.state.count != b.state.count, "count"),
-        (a.state.stop_number != b.state.stop_number, "stop"),
+        (a.state.stop_number() != b.state.stop_number(), "stop"),
         (a.retired != b.retired, "answer"),
         (a.memory != b.memory, "memory"),
         (a.row != b.row, "row"),
@@ -70,7 +70,10 @@ mod tests {
             (|e| e.state.pc += 2, "pc"),
             (|e| e.state.set_reg(31, 1), "register"),
             (|e| e.state.count += 1, "count"),
-            (|e| e.state.stop_number += 1, "stop"),
+            (
+                |e| e.state.set_stop_number(e.state.stop_number() + 1),
+                "stop",
+            ),
             (|e| e.retired += 1, "answer"),
             (|e| e.memory[3] += 1, "memory"),
             (|e| e.row[511] += 1, "row"),

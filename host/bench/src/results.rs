@@ -121,7 +121,7 @@ fn voltage_trim() {
     for engine in ENGINES {
         let end = engines::run(engine, image).0;
         assert_eq!(
-            (end.state.stop_number, &end.row[..8]),
+            (end.state.stop_number(), &end.row[..8]),
             (1, &[47, 1, 0, 0, 1, 0, 0, 0][..])
         );
         assert_eq!(end.row[8..], [0; 504]);
@@ -136,7 +136,7 @@ fn voltage_trim_of_noisy_readings() {
     image[last..].copy_from_slice(&2400_u16.to_le_bytes());
     for engine in ENGINES {
         let end = engines::run(engine, &image).0;
-        assert_eq!((end.state.stop_number, end.row), (2, vec![0; 512]));
+        assert_eq!((end.state.stop_number(), end.row), (2, vec![0; 512]));
     }
 }
 

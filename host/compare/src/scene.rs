@@ -28,15 +28,15 @@ pub enum Entry {
     RunSlot,
 }
 
-/// Where the zeros of a state stand in its record.
+/// Where the zeros of a state stand in its record, after its stop number.
 const ZERO: usize = 137;
 
 fn to_proved(state: &State) -> phuyurik::State {
     let mut record = [0; RECORD];
+    record[ZERO - 1] = state.stop;
     record[ZERO..].copy_from_slice(&state.zero);
     let mut proved = phuyurik::State::from_bytes(record);
     (proved.pc, proved.count) = (state.pc, state.count);
-    proved.stop_number = state.stop;
     for (n, value) in (1..).zip(state.x) {
         proved.set_reg(n, value);
     }
@@ -47,7 +47,7 @@ fn to_second(proved: &phuyurik::State) -> State {
     let mut state = State {
         pc: proved.pc,
         count: proved.count,
-        stop: proved.stop_number,
+        stop: proved.stop_number(),
         ..State::fresh()
     };
     state.x.copy_from_slice(&proved.registers()[1..]);

@@ -101,7 +101,7 @@ fn written(memory: &mut [u8]) -> Result<Vec<u8>, String> {
     done.map_err(|error| error.to_string())?;
     let (call, target) = (state.reg(17), state.reg(10));
     if (state.stop(), call, target) != (Ok(Stop::Ecall), WRITE, 1) {
-        let (stop, pc) = (state.stop_number, state.pc);
+        let (stop, pc) = (state.stop_number(), state.pc);
         return Err(format!("stop {stop} at pc {pc}, a7 {call}, a0 {target}"));
     }
     let (from, length) = (state.reg(11) as usize, state.reg(12) as usize);

@@ -55,9 +55,13 @@ fn answer(words: Vec<OsString>) -> Result<Answer, Error> {
         Command::Demo => demo::demo().map(Answer::good),
         Command::Run(order) => {
             let done = run::run(&order, &mut run::Terminal::new())?;
+            let stop = done
+                .state
+                .stop()
+                .map_err(|unknown| Error::of_library(&order.slots, unknown.into()))?;
             Ok(Answer {
                 text: show::facts(&done),
-                code: show::stop_code(show::stop_of(&done.state)),
+                code: show::stop_code(stop),
             })
         }
     }

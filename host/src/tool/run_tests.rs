@@ -3,7 +3,7 @@ use super::args::Order;
 use super::files::{self, Action};
 use super::journal::{ImageMark, Moment};
 use super::run::{run, Watch};
-use super::show::{stop_code, stop_of};
+use super::show::stop_code;
 use phuyurik::{Row, State, Stop, RECORD};
 use testing::Folder;
 
@@ -68,7 +68,7 @@ fn a_full_count_is_20() {
     let done = run(&order, &mut Told::default()).expect("not refused");
     assert_eq!((done.retired, done.state.count), (2, u64::MAX));
     assert_eq!(done.state.stop(), Ok(Stop::CountFull));
-    assert_eq!(stop_code(stop_of(&done.state)), 20);
+    assert_eq!(done.state.stop().map(stop_code), Ok(20));
 }
 
 #[test]

@@ -72,12 +72,15 @@ pub fn slot_text(state: &State) -> String {
             text += &format!("x{n} {}\n", both(value));
         }
     }
-    text + &format!("count {}\n{}\n", state.count, stop_text(stop_of(state)))
+    text + &format!("count {}\n{}\n", state.count, stop_line(state))
 }
 
-pub fn stop_of(state: &State) -> Stop {
-    let stop = state.stop();
-    stop.expect("the library gave a state that is not malformed")
+/// The stop of a state, in words; the library gives none that has no name.
+fn stop_line(state: &State) -> String {
+    match state.stop() {
+        Ok(stop) => stop_text(stop),
+        Err(unknown) => format!("stop {}: {unknown}", unknown.number()),
+    }
 }
 
 pub fn stop_text(stop: Stop) -> String {
@@ -96,7 +99,7 @@ pub fn facts(done: &Outcome) -> String {
     let state = &done.state;
     let mut text = format!("retired {} in this run\n", done.retired);
     text += &format!("count {}\n", state.count);
-    text += &format!("{}\n", stop_text(stop_of(state)));
+    text += &format!("{}\n", stop_line(state));
     text += &format!("pc {}\n", both(state.pc));
     text += &match done.burnt.len() {
         0 => "no word burnt in this run\n".to_string(),
