@@ -43,16 +43,54 @@ pub use texts::{
 
 /// This package's version as one number, major * 65536 + minor * 256 + patch. A call of an archive
 /// that has another is [`Error::Version`].
+///
+/// ```
+/// assert_eq!(phuyurik::VERSION, phuyurik::archive_version());
+/// ```
 pub const VERSION: u32 = phuyurik_sys::VERSION;
 /// Main memory has at most this many bytes.
+///
+/// ```
+/// use phuyurik::{Board, Refusal, Row, State, LONGEST_MEMORY};
+/// let (mut memory, mut row) = (vec![0; LONGEST_MEMORY + 1], Row::default());
+/// let refused = Board::new(&mut memory, &mut row).run(&mut State::fresh(), 1);
+/// assert_eq!(refused, Err(Refusal::MemoryTooLong.into()));
+/// ```
 pub const LONGEST_MEMORY: usize = 65_536;
 /// The bytes of a fuse row: 64 records of 8.
+///
+/// ```
+/// use phuyurik::{Row, ROW};
+/// assert!(Row::try_from(&[0; ROW][..]).is_ok());
+/// ```
 pub const ROW: usize = 512;
 /// The words of a fuse row.
+///
+/// ```
+/// assert_eq!(phuyurik::Row::default().words().count(), phuyurik::WORDS);
+/// ```
 pub const WORDS: usize = 64;
 /// The bytes of a state's record in a slot.
+///
+/// ```
+/// assert_eq!(phuyurik::State::fresh().to_bytes().len(), phuyurik::RECORD);
+/// ```
 pub const RECORD: usize = 144;
 /// The least room for a text.
+///
+/// ```
+/// use phuyurik::{put_text_of_word, Refusal, ROOM};
+/// assert_eq!(put_text_of_word(0x73, &mut [0; ROOM]), Ok(5));
+/// let refused = put_text_of_word(0x73, &mut [0; ROOM - 1]);
+/// assert_eq!(refused, Err(Refusal::Room.into()));
+/// ```
 pub const ROOM: usize = 24;
 /// The longest line of a listing, its newline included.
+///
+/// ```
+/// let mut room = [0; phuyurik::LINE];
+/// let (length, next) = phuyurik::list(&[0x01, 0x00], 0, &mut room)?;
+/// assert_eq!((&room[..length], next), (&b"00000000 0001 c:addi x0,x0,0\n"[..], 2));
+/// # Ok::<(), phuyurik::Error>(())
+/// ```
 pub const LINE: usize = 38;

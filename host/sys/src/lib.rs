@@ -28,6 +28,10 @@ const _: () = assert!(
 
 /// This package's version as one number, major * 65536 + minor * 256 + patch. That of the archive is
 /// [`phuyurik_version`]'s, and must be the same.
+///
+/// ```
+/// assert_eq!(phuyurik_sys::VERSION, 2 * 256);
+/// ```
 pub const VERSION: u32 = number(env!("CARGO_PKG_VERSION_MAJOR")) * 65_536
     + number(env!("CARGO_PKG_VERSION_MINOR")) * 256
     + number(env!("CARGO_PKG_VERSION_PATCH"));
@@ -43,6 +47,10 @@ const fn number(digits: &str) -> u32 {
 }
 
 /// `phuyurik_inst`: an operation's number and the operands, 0 for each that it does not have.
+///
+/// ```
+/// assert_eq!(size_of::<phuyurik_sys::Instruction>(), 20);
+/// ```
 #[repr(C)]
 #[derive(Clone, Copy, Debug, Default, PartialEq, Eq, Hash)]
 pub struct Instruction {
@@ -59,6 +67,10 @@ pub struct Instruction {
 }
 
 /// `phuyurik_state`: its bytes in memory are those of its record in a slot.
+///
+/// ```
+/// assert_eq!(size_of::<phuyurik_sys::State>(), 144);
+/// ```
 #[repr(C)]
 #[derive(Clone, Copy, Debug, Default, PartialEq, Eq, Hash)]
 pub struct State {
@@ -89,18 +101,66 @@ const _: () = {
 // Each answers 0 or a refusal's number, but for the version.
 extern "C" {
     /// The archive's version, as [`VERSION`] is this package's.
+    ///
+    /// ```
+    /// assert_eq!(unsafe { phuyurik_sys::phuyurik_version() }, phuyurik_sys::VERSION);
+    /// ```
     pub fn phuyurik_version() -> u32;
     /// The format class of 32 bits.
+    ///
+    /// ```
+    /// let mut format = 0;
+    /// // SAFETY: what is lent has the sizes that are said, and nothing overlaps.
+    /// assert_eq!(unsafe { phuyurik_sys::phuyurik_chart(0x73, &mut format) }, 0);
+    /// assert_eq!(format, 2);
+    /// ```
     pub fn phuyurik_chart(bits: u32, format: *mut u8) -> u32;
     /// What 32 bits mean.
+    ///
+    /// ```
+    /// let mut inst = Default::default();
+    /// // SAFETY: what is lent has the sizes that are said, and nothing overlaps.
+    /// assert_eq!(unsafe { phuyurik_sys::phuyurik_decode(0x73, &mut inst) }, 0);
+    /// assert_eq!(inst.operation, 38);
+    /// ```
     pub fn phuyurik_decode(bits: u32, inst: *mut Instruction) -> u32;
     /// What 16 bits mean.
+    ///
+    /// ```
+    /// let mut inst = Default::default();
+    /// // SAFETY: what is lent has the sizes that are said, and nothing overlaps.
+    /// assert_eq!(unsafe { phuyurik_sys::phuyurik_expand(0x9002, &mut inst) }, 0);
+    /// assert_eq!(inst.operation, 39);
+    /// ```
     pub fn phuyurik_expand(bits: u16, inst: *mut Instruction) -> u32;
     /// The word of an instruction.
+    ///
+    /// ```
+    /// let inst = phuyurik_sys::Instruction { operation: 38, ..Default::default() };
+    /// let mut bits = 0;
+    /// // SAFETY: what is lent has the sizes that are said, and nothing overlaps.
+    /// assert_eq!(unsafe { phuyurik_sys::phuyurik_encode(&inst, &mut bits) }, 0);
+    /// assert_eq!(bits, 0x73);
+    /// ```
     pub fn phuyurik_encode(inst: *const Instruction, bits: *mut u32) -> u32;
     /// The smallest halfword that stands for an instruction.
+    ///
+    /// ```
+    /// let inst = phuyurik_sys::Instruction { operation: 39, ..Default::default() };
+    /// let mut bits = 0;
+    /// // SAFETY: what is lent has the sizes that are said, and nothing overlaps.
+    /// assert_eq!(unsafe { phuyurik_sys::phuyurik_shorten(&inst, &mut bits) }, 0);
+    /// assert_eq!(bits, 0x9002);
+    /// ```
     pub fn phuyurik_shorten(inst: *const Instruction, bits: *mut u16) -> u32;
     /// The text of 32 bits.
+    ///
+    /// ```
+    /// let (mut room, mut length) = ([0; 24], 0);
+    /// // SAFETY: what is lent has the sizes that are said, and nothing overlaps.
+    /// unsafe { phuyurik_sys::phuyurik_text_of_word(0x73, room.as_mut_ptr(), 24, &mut length) };
+    /// assert_eq!(&room[..length], b"ecall");
+    /// ```
     pub fn phuyurik_text_of_word(
         bits: u32,
         room: *mut u8,
@@ -108,6 +168,13 @@ extern "C" {
         length: *mut usize,
     ) -> u32;
     /// The text of 16 bits.
+    ///
+    /// ```
+    /// let (mut room, mut length) = ([0; 24], 0);
+    /// // SAFETY: what is lent has the sizes that are said, and nothing overlaps.
+    /// unsafe { phuyurik_sys::phuyurik_text_of_half(0x9002, room.as_mut_ptr(), 24, &mut length) };
+    /// assert_eq!(&room[..length], b"c:ebreak");
+    /// ```
     pub fn phuyurik_text_of_half(
         bits: u16,
         room: *mut u8,
@@ -115,6 +182,14 @@ extern "C" {
         length: *mut usize,
     ) -> u32;
     /// The text of an instruction.
+    ///
+    /// ```
+    /// let inst = phuyurik_sys::Instruction { operation: 38, ..Default::default() };
+    /// let (mut room, mut length) = ([0; 24], 0);
+    /// // SAFETY: what is lent has the sizes that are said, and nothing overlaps.
+    /// unsafe { phuyurik_sys::phuyurik_text_of(&inst, room.as_mut_ptr(), 24, &mut length) };
+    /// assert_eq!(&room[..length], b"ecall");
+    /// ```
     pub fn phuyurik_text_of(
         inst: *const Instruction,
         room: *mut u8,
@@ -122,6 +197,16 @@ extern "C" {
         length: *mut usize,
     ) -> u32;
     /// Whole lines of an image's listing.
+    ///
+    /// ```
+    /// let (image, mut room, mut length, mut next) = ([0x01], [0; 38], 0, 0);
+    /// // SAFETY: what is lent has the sizes that are said, and nothing overlaps.
+    /// unsafe {
+    ///     let room = room.as_mut_ptr();
+    ///     phuyurik_sys::phuyurik_list(image.as_ptr(), 1, 0, room, 38, &mut length, &mut next);
+    /// }
+    /// assert_eq!((&room[..length], next), (&b"00000000 01 ?\n"[..], 1));
+    /// ```
     pub fn phuyurik_list(
         image: *const u8,
         image_size: usize,
@@ -132,6 +217,17 @@ extern "C" {
         next: *mut usize,
     ) -> u32;
     /// One step.
+    ///
+    /// ```
+    /// let (mut state, mut row) = (phuyurik_sys::State::default(), [0; 512]);
+    /// let mut memory = [0x93, 0x00, 0x70, 0x00]; // addi x1,x0,7
+    /// // SAFETY: what is lent has the sizes that are said, and nothing overlaps.
+    /// unsafe {
+    ///     let (memory, row) = (memory.as_mut_ptr(), row.as_mut_ptr());
+    ///     assert_eq!(phuyurik_sys::phuyurik_step(&mut state, memory, 4, row, 512), 0);
+    /// }
+    /// assert_eq!((state.pc, state.x[0]), (4, 7));
+    /// ```
     pub fn phuyurik_step(
         state: *mut State,
         mem: *mut u8,
@@ -140,6 +236,18 @@ extern "C" {
         row_size: usize,
     ) -> u32;
     /// A run of at most `budget` steps.
+    ///
+    /// ```
+    /// let (mut state, mut row) = (phuyurik_sys::State::default(), [0; 512]);
+    /// let mut memory = [0x93, 0x00, 0x70, 0x00]; // addi x1,x0,7
+    /// let mut retired = 0;
+    /// // SAFETY: what is lent has the sizes that are said, and nothing overlaps.
+    /// unsafe {
+    ///     let (memory, row) = (memory.as_mut_ptr(), row.as_mut_ptr());
+    ///     phuyurik_sys::phuyurik_run(&mut state, memory, 4, row, 512, 9, &mut retired);
+    /// }
+    /// assert_eq!((state.stop, retired), (4, 1));
+    /// ```
     pub fn phuyurik_run(
         state: *mut State,
         mem: *mut u8,
@@ -150,6 +258,13 @@ extern "C" {
         retired: *mut u64,
     ) -> u32;
     /// A state into a slot.
+    ///
+    /// ```
+    /// let (state, mut slots) = (phuyurik_sys::State { pc: 2, ..Default::default() }, [0; 144]);
+    /// // SAFETY: what is lent has the sizes that are said, and nothing overlaps.
+    /// unsafe { phuyurik_sys::phuyurik_write_slot(&state, slots.as_mut_ptr(), 144, 0) };
+    /// assert_eq!(slots[..4], [2, 0, 0, 0]);
+    /// ```
     pub fn phuyurik_write_slot(
         state: *const State,
         slots: *mut u8,
@@ -157,6 +272,14 @@ extern "C" {
         k: usize,
     ) -> u32;
     /// The state in a slot.
+    ///
+    /// ```
+    /// let (mut state, mut slots) = (phuyurik_sys::State::default(), [0; 144]);
+    /// slots[0] = 2;
+    /// // SAFETY: what is lent has the sizes that are said, and nothing overlaps.
+    /// unsafe { phuyurik_sys::phuyurik_read_slot(&mut state, slots.as_ptr(), 144, 0) };
+    /// assert_eq!(state.pc, 2);
+    /// ```
     pub fn phuyurik_read_slot(
         state: *mut State,
         slots: *const u8,
@@ -164,6 +287,18 @@ extern "C" {
         k: usize,
     ) -> u32;
     /// A run of the state in a slot.
+    ///
+    /// ```
+    /// let (mut row, mut slots, mut retired) = ([0; 512], [0; 144], 0);
+    /// let mut memory = [0x93, 0x00, 0x70, 0x00]; // addi x1,x0,7
+    /// // SAFETY: what is lent has the sizes that are said, and nothing overlaps.
+    /// unsafe {
+    ///     let (memory, row) = (memory.as_mut_ptr(), row.as_mut_ptr());
+    ///     let slots = slots.as_mut_ptr();
+    ///     phuyurik_sys::phuyurik_run_slot(memory, 4, row, 512, slots, 144, 0, 9, &mut retired);
+    /// }
+    /// assert_eq!((slots[136], retired), (4, 1));
+    /// ```
     pub fn phuyurik_run_slot(
         mem: *mut u8,
         mem_size: usize,
