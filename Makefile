@@ -4,7 +4,7 @@
 # the proved library for C and Rust: target/staticlib/libphuyurik.a
 archive:
 	@mkdir -p target; echo 'The library is proved and built: minutes from nothing, seconds where nothing changed.'
-	@./host/archive.sh >target/archive.log 2>&1 || { cat target/archive.log; exit 1; }
+	@./host/archive.sh >target/archive.log || { cat target/archive.log; exit 1; }
 
 CARGO = cd host && PHUYURIK_ARCHIVE=$(CURDIR)/target/staticlib cargo
 

@@ -1,9 +1,11 @@
-#!/bin/sh
-# Proves the exports and writes target/staticlib/libphuyurik.a for the machine that this runs on.
+#!/usr/bin/env bash
+# Proves the exports and writes target/staticlib/libphuyurik.a for the machine that this runs on. Standard output has
+# all that was said; standard error has only how far it is.
 # The kit writes archives for x86-64. On Arm the kit's own compiler is asked for Arm code instead:
 # a folder stands in for the kit, all links but for the compiler, which drops the x86-64 target.
-set -eu
+set -euo pipefail
 cd "$(dirname "$0")/.."
+exec 3>&2 2>&1
 exports='c_codes c_insts c_texts c_slots c_runs'
 machine=$(uname -m)
 
@@ -50,7 +52,7 @@ if [ "$machine" != x86_64 ]; then
 fi
 # as many crates at a time as there are processors
 # shellcheck disable=SC2086
-rt check $exports
+rt check $exports | ./host/progress.sh $exports 2>&3
 
 # archive EXPORT..: their archives, one after the other. Each is made in a folder of its own, with links
 # to the sources and to what is proved: two calls of rt in one folder would write the same logs.
@@ -62,9 +64,11 @@ archive() {
         ln -s "$PWD/crates" "$PWD/crates.txt" "$room"
         ln -s "$PWD/target/rlib" "$PWD/target/stamp" "$room/target"
         (cd "$room" && rt staticlib "$export") >"$room/log" 2>&1 || { cat "$room/log"; return 1; }
+        echo "compiled $export" >&3
     done
 }
 
+echo "compiling $exports" >&3
 # two at a time; of these two rows neither waits long for the other
 archive c_codes c_texts c_slots &
 archive c_insts c_runs

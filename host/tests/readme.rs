@@ -1,4 +1,7 @@
-//! The programs that README shows are the ones that are compiled and run.
+//! The programs and sessions that README shows are the ones that are compiled and run.
+use std::path::Path;
+use std::process::Command;
+use testing::Folder;
 
 const README: &str = include_str!("../../README.md");
 
@@ -17,4 +20,70 @@ fn the_program_in_c() {
 #[test]
 fn the_program_in_rust() {
     assert_eq!(shown("rust"), include_str!("../examples/first.rs"));
+}
+
+/// A line that a person types, and what the tool answers.
+struct Exchange {
+    line: &'static str,
+    answer: String,
+}
+
+/// The indented block whose first line a person types so.
+fn session(first: &str) -> Vec<Exchange> {
+    let at = README.find(&format!("    $ {first}")).expect(first);
+    let block = README[at..]
+        .lines()
+        .map_while(|line| line.strip_prefix("    "));
+    let mut session: Vec<Exchange> = Vec::new();
+    for text in block {
+        match text.strip_prefix("$ ") {
+            Some(line) => session.push(Exchange {
+                line,
+                answer: String::new(),
+            }),
+            None => {
+                let last = session.last_mut().expect("a line was typed");
+                last.answer += &format!("{text}\n");
+            }
+        }
+    }
+    session
+}
+
+/// What the shell answers to a line, in a folder, with the tool on its path.
+fn answer(folder: &Folder, line: &str) -> String {
+    let tool = Path::new(env!("CARGO_BIN_EXE_phuyurik"));
+    let path = std::env::var("PATH").expect("there is a path");
+    let path = format!("{}:{path}", tool.parent().expect("in a folder").display());
+    let mut shell = Command::new("sh");
+    shell.args(["-c", line]).env("PATH", path);
+    let done = shell.current_dir(folder.path()).output().expect("started");
+    String::from_utf8(done.stdout).expect("text")
+}
+
+#[test]
+fn the_session_with_the_papers_recipe() {
+    let folder = Folder::new();
+    folder.write("trim.bin", include_bytes!("../../examples/trim.bin"));
+    let session = session("phuyurik run trim.bin");
+    assert_eq!(session.len(), 4);
+    for exchange in session {
+        assert_eq!(
+            answer(&folder, exchange.line),
+            exchange.answer,
+            "{}",
+            exchange.line
+        );
+    }
+}
+
+/// The compiler need not be there: what it made stands in the repository.
+#[test]
+fn the_session_with_a_recipe_in_c() {
+    let folder = Folder::new();
+    let elf = include_bytes!("../../examples/from_c/clock_trim.elf");
+    folder.write("clock_trim.elf", elf);
+    let session = session("riscv64-unknown-elf-gcc ");
+    assert_eq!(session.len(), 2);
+    assert_eq!(answer(&folder, session[1].line), session[1].answer);
 }

@@ -1,130 +1,53 @@
 //! The tool as it is called: what it writes, what it leaves in the files, and its exit codes.
+mod bench;
 mod common;
 
+use bench::{burnt_row, with_paper, Bench, COMMANDS, ENDLESS, FILES, PAPER};
 use common::tool;
 use phuyurik::{Stop, RECORD, ROW};
 use std::fs;
 use std::io::Read;
 use std::process::Stdio;
-use std::time::{Duration, Instant};
 use testing::Folder;
 
-const PAPER: [u8; 14] = [
-    0x9D, 0x42, 0x37, 0x03, 0x00, 0x80, 0x23, 0x20, 0x53, 0x00, 0x73, 0x00, 0x00, 0x00,
-];
-/// `jal x0,0`: it never ends.
-const ENDLESS: [u8; 4] = [0x6F, 0x00, 0x00, 0x00];
-const FILES: &str = "--row part.row --slots line.slots";
-
-/// What a call of the tool gave.
-struct Answer {
-    code: i32,
-    out: String,
-    err: String,
-}
-
-trait Bench {
-    fn get(&self, name: &str) -> Vec<u8>;
-    fn has(&self, name: &str) -> bool;
-    fn call(&self, line: &str) -> Answer;
-    fn run(&self, more: &str) -> Answer;
-    fn fails(&self, line: &str, code: i32, words: &[&str]);
-}
-
-impl Bench for Folder {
-    fn get(&self, name: &str) -> Vec<u8> {
-        fs::read(self.file(name)).expect(name)
-    }
-
-    fn has(&self, name: &str) -> bool {
-        self.file(name).exists()
-    }
-
-    /// Whatever the exit code is, the command's help lists it.
-    fn call(&self, line: &str) -> Answer {
-        let answer = answer_to(self, line);
-        let first = line.split(' ').next();
-        let known = ["run", "list", "row", "slot", "demo"];
-        let command = first.filter(|word| known.contains(word));
-        let help = answer_to(self, &format!("{} --help", command.unwrap_or_default()));
-        let code = format!("\n  {:<3} ", answer.code);
-        assert!(help.out.contains(&code), "{line}: {}", answer.code);
-        answer
-    }
-
-    /// The recipe `trim.bin` on the usual files.
-    fn run(&self, more: &str) -> Answer {
-        self.call(&format!("run trim.bin {FILES} {more}"))
-    }
-
-    /// One clear line on standard error that has these words in it, and nothing else.
-    fn fails(&self, line: &str, code: i32, words: &[&str]) {
-        let answer = self.call(line);
-        assert_eq!((answer.code, &*answer.out), (code, ""), "{line}");
-        let lines: Vec<&str> = answer.err.lines().collect();
-        assert_eq!(lines.len(), 1, "{line}: {}", answer.err);
-        for word in words {
-            assert!(lines[0].contains(word), "{line}: {}", lines[0]);
-        }
-    }
-}
-
-fn answer_to(folder: &Folder, line: &str) -> Answer {
-    let done = tool(folder, line).output().expect("started");
-    Answer {
-        code: done.status.code().expect("it ends by itself"),
-        out: String::from_utf8(done.stdout).expect("text"),
-        err: String::from_utf8(done.stderr).expect("text"),
-    }
-}
-
-fn with_paper() -> Folder {
-    let folder = Folder::new();
-    folder.write("trim.bin", &PAPER);
-    folder
-}
-
-/// A row with word 0 burnt with 7, and nothing else.
-fn burnt_row() -> Vec<u8> {
-    let mut row = vec![0; ROW];
-    row[..5].copy_from_slice(&[7, 0, 0, 0, 1]);
-    row
-}
-
 #[test]
-fn help_and_version() {
+fn help_is_there_for_every_command() {
     let folder = Folder::new();
     let program = folder.call("--help").out;
-    for line in [
-        "--help",
-        "run --help",
-        "list --help",
-        "row x --help",
-        "slot -h",
-        "demo --help",
-    ] {
+    let calls = COMMANDS.map(|command| format!("{command} --help"));
+    let others = ["--help", "row x --help", "slot -h"].map(str::to_string);
+    for line in calls.iter().chain(&others) {
         let answer = folder.call(line);
         assert_eq!((answer.code, &*answer.err), (0, ""), "{line}");
         assert!(answer.out.starts_with("Usage: phuyurik "), "{line}");
         let codes = answer.out.split("\nExit codes").nth(1).expect(line);
         assert!(answer.out.lines().all(|line| line.len() <= 80), "{line}");
-        // What a command can end with, the program can; 0 has other words there.
+        // What a command can end with, the program can; 0 and 2 have other words there.
         let coded = |text: &&str| {
             let rest = text.strip_prefix("  ").unwrap_or_default();
-            rest.starts_with(|c: char| ('1'..='9').contains(&c))
+            let is_code = rest.starts_with(|c: char| ('1'..='9').contains(&c));
+            is_code && !rest.starts_with("2 ")
         };
         for code in codes.lines().filter(coded) {
             assert!(program.contains(code), "{line}: {code}");
         }
     }
-    let run = folder.call("run --help").out;
-    for stop in &Stop::ALL[2..] {
+}
+
+#[test]
+fn every_stop_but_ecall_has_its_exit_code_in_the_help() {
+    let run = Folder::new().call("run --help").out;
+    for stop in Stop::ALL.iter().filter(|stop| **stop != Stop::Ecall) {
         let (number, words) = (stop.number(), stop.words());
         let code = format!("\n  {:<3} stop {number}: {words}\n", 10 + number);
         assert!(run.contains(&code), "{code}");
     }
+}
+
+#[test]
+fn the_version_is_the_packages() {
     let version = format!("phuyurik {}\n", env!("CARGO_PKG_VERSION"));
-    assert_eq!(folder.call("--version").out, version);
+    assert_eq!(Folder::new().call("--version").out, version);
 }
 
 #[test]
@@ -142,7 +65,14 @@ fn wrong_usage_is_2() {
     folder.fails(same, 2, &["files of their own"]);
     let same = "run trim.bin --row trim.bin --slots a --slot 0 --budget 1";
     folder.fails(same, 2, &["files of their own"]);
-    assert!(!folder.has("a") && !folder.has("part.row"));
+    folder.fails(
+        &format!("{line} --budget 1 --memory 13"),
+        2,
+        &["--memory 13", "14 bytes"],
+    );
+    let many = format!("run trim.bin {FILES} --slot 4096 --budget 1");
+    folder.fails(&many, 2, &["--slot 4096"]);
+    assert_eq!(folder.snapshot().len(), 2);
 }
 
 #[test]
@@ -185,9 +115,9 @@ fn the_papers_recipe_is_run_and_started_anew() {
     let folder = with_paper();
     let first = folder.run("--slot 0 --budget 100");
     let facts = "retired 3 in this run\ncount 3\nstop 1: ecall\npc 10 (0x0000000a)\n\
-                 1 word burnt in this run\nword 0 burnt with 7 (0x00000007)\n";
-    assert_eq!((first.code, &*first.out), (0, facts));
-    assert!(first.err.contains("part.row was not there: a new part"));
+                 1 word burnt since the recipe's start, 1 of them in this run\n\
+                 word 0 burnt with 7 (0x00000007) in this run\n";
+    assert_eq!((first.code, &*first.out, &*first.err), (0, facts, ""));
     assert_eq!(folder.get("part.row"), burnt_row());
     let row = "word  0 at 0x80000000: 7 (0x00000007)\n1 burnt, 63 blank\n";
     assert_eq!(folder.call("row part.row").out, row);
@@ -196,7 +126,7 @@ fn the_papers_recipe_is_run_and_started_anew() {
     assert_eq!(folder.call("slot line.slots 0").out, slot);
     let again = folder.run("--slot 0 --budget 100");
     let facts = "retired 2 in this run\ncount 2\nstop 9: word already burnt\n\
-                 pc 6 (0x00000006)\nno word burnt in this run\n";
+                 pc 6 (0x00000006)\nno word burnt since the recipe's start\n";
     assert_eq!((again.code, &*again.out), (19, facts));
     assert_eq!(again.err, "");
     assert_eq!(folder.get("part.row"), burnt_row());
@@ -204,26 +134,42 @@ fn the_papers_recipe_is_run_and_started_anew() {
 
 #[test]
 fn a_budget_used_up_is_a_pause_and_the_run_is_resumed() {
-    let folder = with_paper();
-    let resume = "--slot 2 --budget 1 --resume";
-    assert_eq!(folder.run("--slot 2 --budget 0").code, 0);
-    assert_eq!(folder.get("line.slots"), vec![0; 3 * RECORD]);
-    for count in 1..=3 {
-        let piece = folder.run(resume);
-        let facts = format!("retired 1 in this run\ncount {count}\nstop 0: paused, can go on\n");
-        assert_eq!(piece.code, 0);
-        assert!(piece.out.starts_with(&facts), "{}", piece.out);
-        assert_eq!(piece.out.contains("word 0 burnt with 7"), count == 3);
+    for resume in ["", "--resume"] {
+        let folder = with_paper();
+        let line = format!("--slot 2 --budget 1 {resume}");
+        assert_eq!(folder.run("--slot 2 --budget 0").code, 10);
+        assert_eq!(folder.get("line.slots"), vec![0; 3 * RECORD]);
+        for count in 1..=3 {
+            let piece = folder.run(&line);
+            let facts =
+                format!("retired 1 in this run\ncount {count}\nstop 0: paused, can go on\n");
+            assert_eq!(piece.code, 10);
+            assert!(piece.out.starts_with(&facts), "{}", piece.out);
+            assert_eq!(piece.out.contains("word 0 burnt with 7"), count == 3);
+            // Whoever did not ask for it is told.
+            let note = format!("note: carrying on the run in slot 2, count {}", count - 1);
+            assert_eq!(
+                piece.err.contains(&note),
+                resume.is_empty(),
+                "{}",
+                piece.err
+            );
+        }
+        assert_eq!(folder.get("part.row"), burnt_row());
+        let end = folder.run(&line);
+        let facts = "retired 0 in this run\ncount 3\nstop 1: ecall\npc 10 (0x0000000a)\n\
+                     1 word burnt since the recipe's start, 0 of them in this run\n\
+                     word 0 burnt with 7 (0x00000007)\n";
+        assert_eq!((end.code, &*end.out), (0, facts));
+        // Resumed by name, an ended run tells of its end again; else the recipe starts anew.
+        let again = folder.run(&format!("--slot 2 --budget 9 {resume}"));
+        match resume {
+            "" => assert_eq!(again.code, 19),
+            _ => assert_eq!((again.code, &*again.out), (0, facts)),
+        }
+        assert_eq!(folder.get("part.row"), burnt_row());
+        assert_eq!(folder.get("line.slots")[..2 * RECORD], [0; 2 * RECORD]);
     }
-    assert_eq!(folder.get("part.row"), burnt_row());
-    for _ in 0..2 {
-        let end = folder.run(resume);
-        let facts = "retired 0 in this run\ncount 3\nstop 1: ecall\n";
-        assert_eq!(end.code, 0);
-        assert!(end.out.starts_with(facts), "{}", end.out);
-    }
-    assert_eq!(folder.get("part.row"), burnt_row());
-    assert_eq!(folder.get("line.slots")[..2 * RECORD], [0; 2 * RECORD]);
 }
 
 #[test]
@@ -238,7 +184,7 @@ fn a_stop_is_10_and_its_number() {
         (&[0x23, 0x2E, 0x00, 0xFE], 18), // sw x0,-4(x0)
     ];
     for (image, code) in stops {
-        let folder = Folder::new();
+        let folder = with_paper();
         folder.write("trim.bin", image);
         let first = folder.run("--slot 0 --budget 5");
         assert_eq!(first.code, code);
@@ -251,47 +197,45 @@ fn a_stop_is_10_and_its_number() {
 }
 
 /// Changes one file, sees the refusal on a new start and on resuming, and that nothing changes.
-fn is_refused(name: &str, bytes: &[u8], more: &str, code: i32, words: &str) {
+fn is_refused(name: &str, bytes: &[u8], code: i32, words: &str) {
     let folder = with_paper();
-    assert_eq!(folder.run("--slot 0 --budget 1").code, 0);
+    assert_eq!(folder.run("--slot 0 --budget 1").code, 10);
     folder.write(name, bytes);
-    let files = ["part.row", "line.slots", "line.slots.0.memory"];
-    let before = files.map(|file| folder.get(file));
-    for resume in ["", "--resume"] {
-        let line = format!("run trim.bin {FILES} --budget 1 {more} {resume}");
+    let before = folder.snapshot();
+    for mode in ["", "--resume", "--restart", "--dry-run"] {
+        let line = format!("run trim.bin {FILES} --budget 1 --slot 0 {mode}");
         folder.fails(&line, code, &[name, words]);
     }
-    assert_eq!(before, files.map(|file| folder.get(file)));
+    folder.is_as(&before);
 }
 
 #[test]
 fn a_refusal_of_the_image_or_the_row_is_30_and_its_number() {
     let words = "refusal 1: memory longer than 65,536";
-    is_refused("trim.bin", &[0; 65_537], "--slot 0", 31, words);
+    is_refused("trim.bin", &[0; 65_537], 31, words);
     let words = "refusal 2: row not 512 bytes";
     for length in [0, 511, 513, 1024] {
-        is_refused("part.row", &vec![0; length], "--slot 0", 32, words);
+        is_refused("part.row", &vec![0; length], 32, words);
     }
     let words = "refusal 3: a row record breaks its rules";
     for (at, byte) in [(0, 1), (4, 2), (5, 1), (511, 1)] {
         let mut row = [0; ROW];
         row[at] = byte;
-        is_refused("part.row", &row, "--slot 0", 33, words);
+        is_refused("part.row", &row, 33, words);
     }
 }
 
 #[test]
 fn a_refusal_of_the_slots_is_30_and_its_number() {
     let words = "refusal 4: slot buffer not a multiple of 144, or no such slot";
-    is_refused("line.slots", &[0; RECORD - 1], "--slot 0", 34, words);
-    is_refused("line.slots", &[0; RECORD], "--slot 1", 34, words);
-    is_refused("line.slots", &[], "--slot 0", 34, words);
+    is_refused("line.slots", &[0; RECORD - 1], 34, words);
+    is_refused("line.slots", &[0; RECORD + 1], 34, words);
     let words = "refusal 5: state malformed";
     let no_stop = Stop::ALL.len() as u8;
     for (at, byte) in [(0, 1), (136, no_stop), (137, 1), (143, 128)] {
         let mut record = [0; RECORD];
         record[at] = byte;
-        is_refused("line.slots", &record, "--slot 0", 35, words);
+        is_refused("line.slots", &record, 35, words);
     }
 }
 
@@ -311,104 +255,133 @@ fn row_and_slot_refuse_what_is_none() {
 }
 
 #[test]
-fn a_file_that_is_missing_is_3() {
+fn a_file_that_is_missing_is_6() {
     let folder = with_paper();
-    folder.fails("list none", 3, &["none: missing"]);
-    folder.fails("row none", 3, &["none: missing"]);
-    folder.fails("slot none 0", 3, &["none: missing"]);
+    folder.fails("list none", 6, &["none: missing"]);
+    folder.fails("row none", 6, &["none: missing"]);
+    folder.fails("slot none 0", 6, &["none: missing"]);
     let line = "--slot 0 --budget 1";
-    folder.fails(&format!("run none {FILES} {line}"), 3, &["none: missing"]);
+    folder.fails(&format!("run none {FILES} {line}"), 6, &["none: missing"]);
     let nowhere = format!("run trim.bin --row no/part.row --slots line.slots {line}");
-    folder.fails(&nowhere, 3, &["no: missing"]);
+    folder.fails(&nowhere, 6, &["no: missing"]);
     let resume = format!("run trim.bin {FILES} {line} --resume");
-    folder.fails(&resume, 3, &["part.row: missing"]);
-    assert_eq!(folder.run(line).code, 0);
+    folder.fails(
+        &resume,
+        6,
+        &["line.slots.0.memory: missing", "no run to resume"],
+    );
+    assert_eq!(folder.run(line).code, 10);
+    // The record is that of a run that has begun: without its memory file it is lost, not empty.
     for name in ["part.row", "line.slots", "line.slots.0.memory"] {
         let bytes = folder.get(name);
-        fs::remove_file(folder.file(name)).expect("removed");
-        folder.fails(&resume, 3, &[&format!("{name}: missing")]);
-        assert!(!folder.has(name));
+        folder.remove(name);
+        for mode in ["", "--resume", "--restart"] {
+            let line = format!("run trim.bin {FILES} {line} {mode}");
+            folder.fails(&line, 6, &[&format!("{name}: missing")]);
+            assert!(!folder.has(name));
+        }
         folder.write(name, &bytes);
     }
-    assert_eq!(folder.run(&format!("{line} --resume")).code, 0);
+    assert_eq!(folder.run(&format!("{line} --resume")).code, 10);
 }
 
 #[test]
-fn a_missing_row_with_a_record_is_never_taken_for_blank() {
+fn missing_slots_with_a_memory_of_any_slot_are_not_made_anew() {
     let folder = with_paper();
-    folder.write("line.slots", &[0; 2 * RECORD]);
-    assert_eq!(folder.run("--slot 0 --budget 100").code, 0);
-    fs::remove_file(folder.file("part.row")).expect("removed");
+    assert_eq!(folder.run("--slot 1 --budget 1").code, 10);
+    folder.remove("line.slots");
     for slot in 0..2 {
-        let line = format!("run trim.bin {FILES} --slot {slot} --budget 100");
-        folder.fails(&line, 3, &["part.row", "row is missing", "slot 0"]);
-        assert!(!folder.has("part.row"));
+        let line = format!("run trim.bin {FILES} --slot {slot} --budget 1");
+        folder.fails(&line, 6, &["line.slots: missing", "slot 1", "mend"]);
+        assert!(!folder.has("line.slots"));
     }
-    let other = folder.call("run trim.bin --row other --slots line.slots --slot 1 --budget 100");
-    assert_eq!(other.code, 0, "{}", other.err);
-}
-
-#[test]
-fn missing_slots_with_a_memory_are_not_made_anew() {
-    let folder = with_paper();
-    assert_eq!(folder.run("--slot 0 --budget 1").code, 0);
-    fs::remove_file(folder.file("line.slots")).expect("removed");
-    let line = format!("run trim.bin {FILES} --slot 0 --budget 1");
-    folder.fails(&line, 3, &["line.slots", "slots are missing"]);
-    assert!(!folder.has("line.slots"));
-    let many = format!("run trim.bin {FILES} --slot 4096 --budget 1");
-    folder.fails(&many, 3, &["line.slots", "too many"]);
 }
 
 #[test]
 fn a_run_of_another_row_or_image_is_not_resumed() {
     let folder = with_paper();
-    assert_eq!(folder.run("--slot 0 --budget 1").code, 0);
+    assert_eq!(folder.run("--slot 0 --budget 1").code, 10);
     folder.write("other.row", &[0; ROW]);
     let mut other = PAPER;
     other[0] ^= 4;
     folder.write("other.bin", &other);
     folder.write("longer.bin", &[&PAPER[..], &[0]].concat());
-    let line = "--slots line.slots --slot 0 --budget 9 --resume";
-    let row = format!("run trim.bin --row other.row {line}");
-    folder.fails(&row, 3, &["line.slots.0.memory", "another row", "part.row"]);
-    for image in ["other.bin", "longer.bin"] {
-        let line = format!("run {image} --row part.row {line}");
-        folder.fails(&line, 3, &["line.slots.0.memory", "another image"]);
+    for mode in ["", "--resume"] {
+        let line = format!("--slots line.slots --slot 0 --budget 9 {mode}");
+        let row = format!("run trim.bin --row other.row {line}");
+        folder.fails(&row, 7, &["slot 0", "another row", "part.row"]);
+        for image in ["other.bin", "longer.bin"] {
+            let line = format!("run {image} --row part.row {line}");
+            folder.fails(
+                &line,
+                7,
+                &["line.slots.0.memory", "another image", "--restart"],
+            );
+        }
+        let memory = format!("run trim.bin --row part.row {line} --memory 15");
+        folder.fails(&memory, 7, &["line.slots.0.memory", "memory of 14 bytes"]);
     }
     assert_eq!(folder.get("other.row"), vec![0; ROW]);
-    assert_eq!(folder.run("--slot 0 --budget 9 --resume").code, 0);
+    assert_eq!(
+        folder.run("--slot 0 --budget 9 --resume --memory 14").code,
+        0
+    );
 }
 
 #[test]
-fn a_record_that_was_not_saved_with_the_memory_is_not_resumed() {
+fn a_longer_memory_is_the_image_with_zeros_after_it() {
     let folder = with_paper();
-    assert_eq!(folder.run("--slot 0 --budget 1").code, 0);
+    // lw x5,2044(x0); sw x5,2040(x0); ecall
+    let image: [u8; 12] = [
+        0x83, 0x22, 0xC0, 0x7F, 0x23, 0x2C, 0x50, 0x7E, 0x73, 0x00, 0x00, 0x00,
+    ];
+    folder.write("trim.bin", &image);
+    assert_eq!(folder.run("--slot 0 --budget 9").code, 16);
+    assert_eq!(folder.run("--slot 0 --budget 1 --memory 2048").code, 10);
+    // A resumed run has the memory that it was started with.
+    assert_eq!(folder.run("--slot 0 --budget 9").code, 0);
+    assert_eq!(folder.run("--slot 0 --budget 9 --memory 65536").code, 0);
+    for memory in ["65537", "18446744073709551615"] {
+        let line = format!("run trim.bin {FILES} --slot 0 --budget 9 --memory {memory}");
+        folder.fails(&line, 31, &["trim.bin: refusal 1"]);
+    }
+}
+
+#[test]
+fn a_record_that_was_not_saved_with_the_memory_is_not_used() {
+    let folder = with_paper();
+    assert_eq!(folder.run("--slot 0 --budget 1").code, 10);
     folder.write("line.slots", &[0; RECORD]);
-    let line = format!("run trim.bin {FILES} --slot 0 --budget 9 --resume");
-    folder.fails(&line, 3, &["line.slots", "slot 0 is not the record"]);
+    for mode in ["", "--resume", "--restart"] {
+        let line = format!("run trim.bin {FILES} --slot 0 --budget 9 {mode}");
+        folder.fails(
+            &line,
+            5,
+            &["line.slots", "slot 0 is not the record", "mend"],
+        );
+    }
 }
 
 #[test]
 fn a_paused_run_of_another_row_keeps_its_slot() {
     let folder = with_paper();
-    assert_eq!(folder.run("--slot 0 --budget 1").code, 0);
+    folder.write("other.row", &[0; ROW]);
+    assert_eq!(folder.run("--slot 0 --budget 1").code, 10);
     let files = ["line.slots", "line.slots.0.memory"];
     let before = files.map(|file| folder.get(file));
     let other = "run trim.bin --row other.row --slots line.slots --slot 0 --budget 9";
-    folder.fails(
-        other,
-        3,
-        &["slot 0", "paused run", "part.row", "another slot"],
-    );
+    for mode in ["", " --restart"] {
+        let words = ["slot 0", "paused run", "part.row", "another slot", "forget"];
+        folder.fails(&format!("{other}{mode}"), 7, &words);
+    }
     assert_eq!(before, files.map(|file| folder.get(file)));
-    assert!(!folder.has("other.row"));
-    // A new start on its own row may replace it; once it has stopped, another row's may, too.
+    assert_eq!(folder.get("other.row"), vec![0; ROW]);
+    // Once it has stopped, another row's run may have the slot.
     assert_eq!(folder.run("--slot 0 --budget 100").code, 0);
     assert_eq!(folder.call(other).code, 0);
     assert_eq!(folder.get("other.row"), burnt_row());
     let line = format!("run trim.bin {FILES} --slot 0 --budget 9 --resume");
-    folder.fails(&line, 3, &["another row", "other.row"]);
+    folder.fails(&line, 7, &["another row", "other.row"]);
 }
 
 #[test]
@@ -417,61 +390,90 @@ fn a_paused_record_without_its_memory_is_kept() {
     let mut record = [0; RECORD];
     record[128] = 1;
     folder.write("line.slots", &record);
-    let line = format!("run trim.bin {FILES} --slot 0 --budget 1");
-    folder.fails(&line, 3, &["slot 0", "memory file is missing"]);
+    for mode in ["", "--resume", "--restart"] {
+        let line = format!("run trim.bin {FILES} --slot 0 --budget 1 {mode}");
+        folder.fails(
+            &line,
+            6,
+            &["line.slots.0.memory: missing", "paused", "forget"],
+        );
+    }
     assert_eq!(folder.get("line.slots"), record);
 }
 
-/// A run that is carried on sees the words that a run in another slot burnt meanwhile.
+/// A run that is carried on sees the words that a run in another slot burnt meanwhile, and does not
+/// take them for its own.
 #[test]
 fn an_old_copy_of_the_row_never_comes_back() {
     let folder = with_paper();
-    folder.write("line.slots", &[0; 2 * RECORD]);
-    assert_eq!(folder.run("--slot 0 --budget 2").code, 0);
-    let second = folder.run("--slot 1 --budget 100");
+    assert_eq!(folder.run("--slot 0 --budget 2").code, 10);
+    let second = folder.run("--slot 1 --budget 100 --restart");
     assert!(second.out.contains("word 0 burnt with 7"));
     let first = folder.run("--slot 0 --budget 100 --resume");
     assert_eq!(first.code, 19);
-    assert!(first.out.contains("no word burnt"));
+    assert!(first.out.contains("no word burnt since"));
     assert_eq!(folder.get("part.row"), burnt_row());
 }
 
 #[test]
-fn damaged_files_are_3_and_never_ignored() {
+fn damaged_files_are_5_and_never_ignored() {
     let folder = with_paper();
-    assert_eq!(folder.run("--slot 0 --budget 1").code, 0);
-    let mut memory = folder.get("line.slots.0.memory");
-    let last = memory.len() - 10;
-    memory[last] ^= 1;
-    folder.write("line.slots.0.memory", &memory);
-    for resume in ["", "--resume"] {
-        let line = format!("run trim.bin {FILES} --slot 0 --budget 1 {resume}");
-        folder.fails(&line, 3, &["line.slots.0.memory: damaged"]);
+    assert_eq!(folder.run("--slot 0 --budget 1").code, 10);
+    for name in ["line.slots.0.memory", "part.row.seen"] {
+        let mut bytes = folder.get(name);
+        let last = bytes.len() - 10;
+        bytes[last] ^= 1;
+        folder.write(name, &bytes);
+        for mode in ["", "--resume", "--restart", "--dry-run"] {
+            let line = format!("run trim.bin {FILES} --slot 0 --budget 1 {mode}");
+            folder.fails(&line, 5, &[&format!("{name}: damaged")]);
+        }
+        bytes[last] ^= 1;
+        folder.write(name, &bytes);
     }
-    memory[last] ^= 1;
-    folder.write("line.slots.0.memory", &memory);
-    folder.write("part.row.journal", b"phuyJRN1 torn");
-    for resume in ["", "--resume"] {
-        let line = format!("run trim.bin {FILES} --slot 0 --budget 1 {resume}");
-        folder.fails(&line, 3, &["part.row.journal: damaged journal"]);
+    folder.write("part.row.journal", b"phuyJRN2 torn");
+    for mode in ["", "--resume", "--restart", "--dry-run"] {
+        let line = format!("run trim.bin {FILES} --slot 0 --budget 1 {mode}");
+        folder.fails(&line, 5, &["part.row.journal: damaged", "settle"]);
     }
-    assert!(folder.call("row part.row").err.contains("note: "));
-    assert_eq!(folder.get("part.row.journal"), b"phuyJRN1 torn");
+    for line in ["row part.row", "slot line.slots 0"] {
+        let shown = folder.call(line);
+        assert_eq!(shown.code, 0);
+        assert!(
+            shown.err.contains("damaged") && shown.err.contains("shown is what the file holds")
+        );
+    }
+    assert_eq!(folder.get("part.row.journal"), b"phuyJRN2 torn");
+}
+
+/// Whoever looked at the row may say that it is right.
+#[test]
+fn a_damaged_seen_file_is_made_anew_for_an_accepted_row() {
+    let folder = with_paper();
+    assert_eq!(folder.run("--slot 0 --budget 1").code, 10);
+    folder.write("part.row.seen", b"");
+    let accepted = folder.run("--slot 0 --budget 9 --accept-row");
+    assert_eq!(accepted.code, 0, "{}", accepted.err);
+    assert!(accepted.err.contains("part.row.seen: damaged"));
+    folder.write("part.row", &[0; ROW]);
+    let line = format!("run trim.bin {FILES} --slot 0 --budget 9");
+    folder.fails(&line, 9, &["word 0 (burnt with 7) is blank"]);
 }
 
 #[test]
 fn stray_tmp_files_are_harmless() {
     let folder = with_paper();
+    folder.remove("part.row");
     let strays = [
         "part.row",
         "part.row.journal",
-        "line.slots",
+        "part.row.seen",
         "line.slots.0.memory",
     ];
     for name in strays {
         folder.write(&format!("{name}.tmp"), &[0xAA; 5000]);
     }
-    assert_eq!(folder.run("--slot 0 --budget 100").code, 0);
+    assert_eq!(folder.run("--slot 0 --budget 100 --new").code, 0);
     assert_eq!(folder.get("part.row"), burnt_row());
     for name in strays {
         assert!(!folder.has(&format!("{name}.tmp")));
@@ -484,54 +486,61 @@ fn a_file_that_cannot_be_written_is_3() {
     fs::create_dir(folder.file("part.row.journal.tmp")).expect("made");
     let line = format!("run trim.bin {FILES} --slot 0 --budget 100");
     folder.fails(&line, 3, &["part.row.journal"]);
-    assert!(!folder.has("part.row") && !folder.has("part.row.journal"));
+    assert_eq!(folder.get("part.row"), vec![0; ROW]);
+    assert!(!folder.has("part.row.journal"));
+    fs::create_dir(folder.file("folder")).expect("made");
+    let line = "--slots line.slots --slot 0 --budget 1";
+    let words = ["folder: not a regular file"];
+    folder.fails(&format!("run trim.bin --row folder {line}"), 3, &words);
 }
 
-/// The row cannot be replaced, but the burnt word is in the journal by then.
+/// The memory cannot be written, but the burnt word is in the journal by then.
 #[test]
 fn a_save_that_fails_half_way_is_carried_out_by_the_next_run() {
     let folder = with_paper();
-    assert_eq!(folder.run("--slot 0 --budget 2").code, 0);
-    let in_the_way = folder.file("part.row.tmp");
+    assert_eq!(folder.run("--slot 0 --budget 2").code, 10);
+    let in_the_way = folder.file("line.slots.0.memory.tmp");
     fs::create_dir(&in_the_way).expect("made");
     let line = format!("run trim.bin {FILES} --slot 0 --budget 9 --resume");
-    folder.fails(&line, 3, &["part.row: "]);
+    folder.fails(&line, 3, &["line.slots.0.memory: "]);
     assert_eq!(folder.get("part.row"), vec![0; ROW]);
-    assert!(folder.call("slot line.slots 0").err.contains("note: "));
     fs::remove_dir(&in_the_way).expect("removed");
     let resumed = folder.call(&line);
     assert!(resumed.err.contains("note: ") && resumed.err.contains("carried out"));
-    assert!(resumed
-        .out
-        .starts_with("retired 0 in this run\ncount 3\nstop 1: ecall\n"));
-    assert_eq!((resumed.code, folder.get("part.row")), (0, burnt_row()));
+    let facts = "retired 0 in this run\ncount 3\nstop 1: ecall\npc 10 (0x0000000a)\n\
+                 1 word burnt since the recipe's start, 0 of them in this run\n\
+                 word 0 burnt with 7 (0x00000007)\n";
+    assert_eq!((resumed.code, &*resumed.out), (0, facts));
+    assert_eq!(folder.get("part.row"), burnt_row());
     assert!(!folder.has("part.row.journal"));
 }
 
 #[test]
-fn a_second_run_at_the_same_time_is_locked_out() {
+fn a_second_run_at_the_same_time_is_busy() {
     let folder = with_paper();
     folder.write("endless.bin", &ENDLESS);
+    folder.write("other.row", &[0; ROW]);
     let line = format!("run endless.bin {FILES} --slot 0 --budget {}", u64::MAX);
     let mut command = tool(&folder, &line);
     command.stdout(Stdio::null()).stderr(Stdio::null());
     let mut first = command.spawn().expect("started");
-    let clock = Instant::now();
-    while !folder.has("part.row") && clock.elapsed() < Duration::from_secs(20) {
-        std::thread::sleep(Duration::from_millis(5));
+    folder.waits_for("part.row.seen");
+    for dry_run in ["", "--dry-run"] {
+        let row = "run trim.bin --row part.row --slots other.slots --slot 0 --budget 9";
+        let words = ["part.row.lock: held by another run"];
+        folder.fails(&format!("{row} {dry_run}"), 4, &words);
+        let slot = "run trim.bin --row other.row --slots line.slots --slot 0 --budget 9";
+        let words = ["line.slots.0.lock: held by another run"];
+        folder.fails(&format!("{slot} {dry_run}"), 4, &words);
     }
-    let row = "run trim.bin --row part.row --slots other.slots --slot 0 --budget 9";
-    folder.fails(row, 3, &["part.row: locked by another run"]);
-    let slots = "run trim.bin --row other.row --slots line.slots --slot 0 --budget 9";
-    folder.fails(slots, 3, &["line.slots: locked by another run"]);
-    assert!(!folder.has("other.row") && !folder.has("other.slots"));
+    assert!(!folder.has("other.row.seen") && !folder.has("other.slots"));
     first.kill().expect("killed");
     first.wait().expect("over");
     // The lock went with its process.
     let resumed = folder.call(&format!(
         "run endless.bin {FILES} --slot 0 --budget 7 --resume"
     ));
-    assert_eq!(resumed.code, 0, "{}", resumed.err);
+    assert_eq!(resumed.code, 10, "{}", resumed.err);
     assert!(resumed.out.starts_with("retired 7 in this run\n"));
 }
 
@@ -553,7 +562,7 @@ fn the_demo_shows_the_papers_facts_and_leaves_nothing() {
         "1 burnt, 63 blank\n",
         "retired 2 in this run\n",
         "stop 9: word already burnt\npc 6 ",
-        "no word burnt in this run\n",
+        "no word burnt since the recipe's start\n",
     ] {
         assert!(out.contains(fact), "{fact}");
     }

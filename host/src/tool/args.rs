@@ -1,7 +1,7 @@
 //! The command line.
 use super::error::Error;
 use super::help;
-use std::collections::VecDeque;
+use std::collections::{BTreeMap, VecDeque};
 use std::ffi::OsString;
 use std::path::PathBuf;
 
@@ -16,19 +16,60 @@ pub enum Command {
     List(PathBuf),
     Row(PathBuf),
     Slot(PathBuf, usize),
+    Status(PathBuf),
+    Forget {
+        slots: PathBuf,
+        k: usize,
+        yes: bool,
+    },
+    Adopt {
+        slots: PathBuf,
+        k: usize,
+        row: PathBuf,
+        yes: bool,
+    },
+    Settle {
+        row: PathBuf,
+        discard: bool,
+        yes: bool,
+    },
+    Mend {
+        slots: PathBuf,
+        yes: bool,
+    },
     Demo,
 }
 
+/// What `run` is to do with a run of its row that it finds in its slot.
+#[derive(Clone, Copy, Debug, PartialEq, Eq)]
+pub enum Mode {
+    /// Carry it on, or tell an end of it that was not told; start the recipe if there is none, here
+    /// or elsewhere. What is typed without thinking loses nothing.
+    Either,
+    /// Carry it on, or tell its end, and never start.
+    Resume,
+    /// Give it up, and start, also beside one that is paused elsewhere.
+    Restart,
+}
+
 /// What `phuyurik run` is to do.
-#[derive(Debug, PartialEq)]
+#[derive(Clone, Debug, PartialEq)]
 pub struct Order {
     pub image: PathBuf,
     pub row: PathBuf,
     pub slots: PathBuf,
     pub slot: usize,
     pub budget: u64,
-    pub resume: bool,
     pub piece: u64,
+    /// The memory's length, where it is not the image's.
+    pub memory: Option<usize>,
+    pub mode: Mode,
+    /// The part is new: its row is not there yet.
+    pub new: bool,
+    /// The part was exchanged: what was known of the row no longer holds.
+    pub accept_row: bool,
+    /// On copies: no file is changed.
+    pub dry_run: bool,
 }
 
 fn wrong<T>(why: impl ToString) -> Result<T, Error> {
@@ -57,98 +98,186 @@ pub fn parse(words: Vec<OsString>) -> Result<Command, Error> {
     if words.iter().any(|word| is(word, &["--help", "-h"])) {
         return Ok(Command::Help(help.text()));
     }
-    match &*name {
-        "run" => run(words),
-        "list" => Ok(Command::List(alone(words, ["IMAGE"])?[0].clone().into())),
-        "row" => Ok(Command::Row(alone(words, ["FILE"])?[0].clone().into())),
-        "slot" => {
-            let [file, k] = alone(words, ["FILE", "K"])?;
-            Ok(Command::Slot(file.into(), number("K", &k)? as usize))
-        }
-        _ => alone(words, []).map(|_| Command::Demo),
+    let Some(takes) = TAKEN.iter().find(|takes| takes.command == name) else {
+        return wrong(format!("no command {name:?}"));
+    };
+    command_of(Given::read(words, takes)?)
+}
+
+/// What a command takes: words of its own, options with a value, and options without.
+struct Takes {
+    command: &'static str,
+    words: &'static [&'static str],
+    values: &'static [&'static str],
+    flags: &'static [&'static str],
+}
+
+const fn takes(
+    command: &'static str,
+    words: &'static [&'static str],
+    values: &'static [&'static str],
+    flags: &'static [&'static str],
+) -> Takes {
+    Takes {
+        command,
+        words,
+        values,
+        flags,
     }
 }
 
-/// The words of a command that has no options: one for each name.
-fn alone<const N: usize>(
-    words: VecDeque<OsString>,
-    names: [&str; N],
-) -> Result<[OsString; N], Error> {
-    let words = Vec::from(words);
-    if let Some(word) = words.get(N) {
-        return wrong(format!("{word:?} is one word too many"));
-    }
-    if let Some(name) = names.get(words.len()) {
-        return wrong(format!("{name} is missing"));
-    }
-    Ok(words.try_into().expect("there are N words"))
+const RUN_VALUES: &[&str] = &[
+    "--row", "--slots", "--slot", "--budget", "--piece", "--memory",
+];
+const RUN_FLAGS: &[&str] = &[
+    "--resume",
+    "--restart",
+    "--new",
+    "--accept-row",
+    "--dry-run",
+];
+
+const TAKEN: &[Takes] = &[
+    takes("run", &["IMAGE"], RUN_VALUES, RUN_FLAGS),
+    takes("list", &["IMAGE"], &[], &[]),
+    takes("row", &["FILE"], &[], &[]),
+    takes("slot", &["FILE", "K"], &[], &[]),
+    takes("status", &["FOLDER"], &[], &[]),
+    takes("forget", &["SLOTS", "K"], &[], &["--yes"]),
+    takes("adopt", &["SLOTS", "K"], &["--row"], &["--yes"]),
+    takes("settle", &["ROW"], &[], &["--discard", "--yes"]),
+    takes("mend", &["SLOTS"], &[], &["--yes"]),
+    takes("demo", &[], &[], &[]),
+];
+
+/// What was given, by name, each at most once.
+struct Given {
+    command: &'static str,
+    values: BTreeMap<&'static str, OsString>,
+    flags: Vec<&'static str>,
 }
 
-fn number(name: &str, word: &OsString) -> Result<u64, Error> {
-    match word.to_string_lossy().parse() {
-        Ok(number) => Ok(number),
-        Err(_) => wrong(format!("{name}: {word:?} is not a number from 0 to 2^64-1")),
-    }
-}
-
-/// The options of `run`, each at most once.
-#[derive(Default)]
-struct Options {
-    image: Option<OsString>,
-    row: Option<OsString>,
-    slots: Option<OsString>,
-    slot: Option<OsString>,
-    budget: Option<OsString>,
-    piece: Option<OsString>,
-    resume: bool,
-}
-
-fn run(mut words: VecDeque<OsString>) -> Result<Command, Error> {
-    let mut options = Options::default();
-    while let Some(word) = words.pop_front() {
-        let name = word.to_string_lossy().into_owned();
-        let place = match &*name {
-            "--resume" => {
-                options.resume = true;
-                continue;
-            }
-            "--row" => &mut options.row,
-            "--slots" => &mut options.slots,
-            "--slot" => &mut options.slot,
-            "--budget" => &mut options.budget,
-            "--piece" => &mut options.piece,
-            _ if name.starts_with('-') => return wrong(format!("no option {name:?}")),
-            _ => {
-                words.push_front(word);
-                &mut options.image
-            }
+impl Given {
+    fn read(mut words: VecDeque<OsString>, takes: &Takes) -> Result<Given, Error> {
+        let mut given = Given {
+            command: takes.command,
+            values: BTreeMap::new(),
+            flags: Vec::new(),
         };
-        let value = match words.pop_front() {
-            Some(value) => value,
-            None => return wrong(format!("{name} needs a value")),
-        };
-        if let Some(first) = place.replace(value) {
-            return wrong(format!("{name} comes after {first:?}: one too many"));
+        let mut own = takes.words.iter();
+        while let Some(word) = words.pop_front() {
+            let name = word.to_string_lossy();
+            if let Some(flag) = takes.flags.iter().find(|flag| **flag == name) {
+                given.flags.push(flag);
+            } else if let Some(option) = takes.values.iter().find(|option| **option == name) {
+                let Some(value) = words.pop_front() else {
+                    return wrong(format!("{name} needs a value"));
+                };
+                if let Some(first) = given.values.insert(option, value) {
+                    return wrong(format!("{name} comes after {first:?}: one too many"));
+                }
+            } else if name.starts_with('-') {
+                return wrong(format!("no option {name:?}"));
+            } else if let Some(place) = own.next() {
+                given.values.insert(place, word);
+            } else {
+                return wrong(format!("{word:?} is one word too many"));
+            }
+        }
+        Ok(given)
+    }
+
+    fn has(&self, flag: &str) -> bool {
+        self.flags.contains(&flag)
+    }
+
+    fn value(&self, name: &str) -> Result<&OsString, Error> {
+        match self.values.get(name) {
+            Some(value) => Ok(value),
+            None => wrong(format!("{name} is missing")),
         }
     }
-    order(options).map(Command::Run)
+
+    fn path(&self, name: &str) -> Result<PathBuf, Error> {
+        self.value(name).map(PathBuf::from)
+    }
+
+    fn number(&self, name: &str) -> Result<u64, Error> {
+        let word = self.value(name)?;
+        match word.to_string_lossy().parse() {
+            Ok(number) => Ok(number),
+            Err(_) => wrong(format!("{name}: {word:?} is not a number from 0 to 2^64-1")),
+        }
+    }
+
+    fn number_if_given(&self, name: &str) -> Result<Option<u64>, Error> {
+        match self.values.contains_key(name) {
+            true => self.number(name).map(Some),
+            false => Ok(None),
+        }
+    }
+
+    /// A length or a place, which on a small machine may be too large for any.
+    fn size(&self, name: &str) -> Result<usize, Error> {
+        let number = self.number(name)?;
+        usize::try_from(number).or_else(|_| wrong(format!("{name}: {number} is too large")))
+    }
 }
 
-fn order(options: Options) -> Result<Order, Error> {
-    let need = |name: &str, value: Option<OsString>| match value {
-        Some(value) => Ok(value),
-        None => wrong(format!("{name} is missing")),
+fn command_of(given: Given) -> Result<Command, Error> {
+    let yes = given.has("--yes");
+    Ok(match given.command {
+        "run" => Command::Run(order(&given)?),
+        "list" => Command::List(given.path("IMAGE")?),
+        "row" => Command::Row(given.path("FILE")?),
+        "slot" => Command::Slot(given.path("FILE")?, given.size("K")?),
+        "status" => Command::Status(given.path("FOLDER").unwrap_or_else(|_| ".".into())),
+        "forget" => Command::Forget {
+            slots: given.path("SLOTS")?,
+            k: given.size("K")?,
+            yes,
+        },
+        "adopt" => Command::Adopt {
+            slots: given.path("SLOTS")?,
+            k: given.size("K")?,
+            row: given.path("--row")?,
+            yes,
+        },
+        "settle" => Command::Settle {
+            row: given.path("ROW")?,
+            discard: given.has("--discard"),
+            yes,
+        },
+        "mend" => Command::Mend {
+            slots: given.path("SLOTS")?,
+            yes,
+        },
+        _ => Command::Demo,
+    })
+}
+
+fn order(given: &Given) -> Result<Order, Error> {
+    let mode = match (given.has("--resume"), given.has("--restart")) {
+        (true, true) => return wrong("--resume and --restart exclude each other"),
+        (true, false) => Mode::Resume,
+        (false, true) => Mode::Restart,
+        (false, false) => Mode::Either,
     };
     let order = Order {
-        image: need("IMAGE", options.image)?.into(),
-        row: need("--row", options.row)?.into(),
-        slots: need("--slots", options.slots)?.into(),
-        slot: number("--slot", &need("--slot", options.slot)?)? as usize,
-        budget: number("--budget", &need("--budget", options.budget)?)?,
-        resume: options.resume,
-        piece: options
-            .piece
-            .map_or(Ok(PIECE), |word| number("--piece", &word))?,
+        image: given.path("IMAGE")?,
+        row: given.path("--row")?,
+        slots: given.path("--slots")?,
+        slot: given.size("--slot")?,
+        budget: given.number("--budget")?,
+        piece: given.number_if_given("--piece")?.unwrap_or(PIECE),
+        memory: match given.values.contains_key("--memory") {
+            true => Some(given.size("--memory")?),
+            false => None,
+        },
+        mode,
+        new: given.has("--new"),
+        accept_row: given.has("--accept-row"),
+        dry_run: given.has("--dry-run"),
     };
     match order.piece {
         0 => wrong("--piece must be at least 1"),
@@ -166,17 +295,77 @@ mod tests {
 
     #[test]
     fn a_whole_run() {
-        let line = "run a --row r --slots s --slot 2 --budget 18446744073709551615 --resume";
+        let line = "run a --row r --slots s --slot 2 --budget 18446744073709551615";
         let order = Order {
             image: "a".into(),
             row: "r".into(),
             slots: "s".into(),
             slot: 2,
             budget: u64::MAX,
-            resume: true,
             piece: PIECE,
+            memory: None,
+            mode: Mode::Either,
+            new: false,
+            accept_row: false,
+            dry_run: false,
         };
-        assert_eq!(parsed(line).expect("right"), Command::Run(order));
+        assert_eq!(parsed(line).expect("right"), Command::Run(order.clone()));
+        let more = "--memory 9 --piece 7 --resume --new --accept-row --dry-run";
+        let order = Order {
+            piece: 7,
+            memory: Some(9),
+            mode: Mode::Resume,
+            new: true,
+            accept_row: true,
+            dry_run: true,
+            ..order
+        };
+        let line = format!("{line} {more}");
+        assert_eq!(parsed(&line).expect("right"), Command::Run(order.clone()));
+        let mode = Mode::Restart;
+        let line = line.replace("--resume", "--restart");
+        assert_eq!(
+            parsed(&line).expect("right"),
+            Command::Run(Order { mode, ..order })
+        );
+    }
+
+    #[test]
+    fn the_ways_out() {
+        let (slots, row): (PathBuf, PathBuf) = ("s".into(), "r".into());
+        let commands = [
+            ("status", Command::Status(".".into())),
+            ("status s", Command::Status("s".into())),
+            (
+                "forget s 3",
+                Command::Forget {
+                    slots: slots.clone(),
+                    k: 3,
+                    yes: false,
+                },
+            ),
+            (
+                "adopt --yes s --row r 3",
+                Command::Adopt {
+                    slots: slots.clone(),
+                    k: 3,
+                    row: row.clone(),
+                    yes: true,
+                },
+            ),
+            (
+                "settle --discard r",
+                Command::Settle {
+                    row,
+                    discard: true,
+                    yes: false,
+                },
+            ),
+            ("mend s --yes", Command::Mend { slots, yes: true }),
+        ];
+        for (line, command) in commands {
+            assert_eq!(parsed(line).expect(line), command);
+        }
     }
 
     #[test]
@@ -186,40 +375,46 @@ mod tests {
             other => panic!("{line}: {other:?}"),
         };
         let program = help("--help");
-        for known in help::COMMANDS {
+        assert_eq!(help::COMMANDS.len(), TAKEN.len());
+        for (known, takes) in help::COMMANDS.iter().zip(TAKEN) {
             let (name, text) = (known.command, known.text());
             assert_eq!(help(&format!("{name} --help")), text);
             assert!(text.starts_with(&format!("Usage: phuyurik {name}")));
             assert!(text.contains("\nExample") && text.contains("\nExit codes"));
             assert!(program.contains(&format!("\n  {name} ")));
+            assert_eq!(name, takes.command);
+            for option in takes.values.iter().chain(takes.flags).chain(takes.words) {
+                assert!(text.contains(option), "{name}: {option}");
+            }
         }
         assert!(program.contains("\nExample") && program.contains("\nExit codes"));
     }
 
+    fn is_wrong(line: &str) {
+        match parsed(line) {
+            Err(Error::Usage(_)) => {}
+            other => panic!("{line}: {other:?}"),
+        }
+    }
+
     #[test]
     fn wrong_lines_are_usage_errors() {
+        let lines = "|walk|list|list a b|slot a|slot a -1|slot a x|demo now|status a b|forget s|\
+                     forget s x|forget s 0 --no|adopt s 0|adopt s|settle|settle r s|\
+                     settle r --row r|mend|mend s 0";
+        lines.split('|').for_each(is_wrong);
+    }
+
+    #[test]
+    fn wrong_runs_are_usage_errors() {
         let whole = "run a --row r --slots s --slot 0 --budget 1";
-        let mut lines = vec![
-            String::new(),
-            "walk".to_string(),
-            "list".to_string(),
-            "list a b".to_string(),
-            "slot a".to_string(),
-            "slot a -1".to_string(),
-            "slot a x".to_string(),
-            "demo now".to_string(),
-        ];
-        for more in ["--piece 0", "--piece", "--row q", "b", "--fast", "--budget"] {
-            lines.push(format!("{whole} {more}"));
+        let more = "--piece 0|--piece|--row q|b|--fast|--budget|--resume --restart|--memory|\
+                    --memory x|--yes";
+        for more in more.split('|') {
+            is_wrong(&format!("{whole} {more}"));
         }
         for part in ["a ", " --row r", " --slots s", " --slot 0", " --budget 1"] {
-            lines.push(whole.replacen(part, "", 1));
-        }
-        for line in lines {
-            match parsed(&line) {
-                Err(Error::Usage(_)) => {}
-                other => panic!("{line}: {other:?}"),
-            }
+            is_wrong(&whole.replacen(part, "", 1));
         }
     }
 }

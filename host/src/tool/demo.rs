@@ -1,7 +1,9 @@
 //! `phuyurik demo`: the paper's recipe, run twice on one row, each fact compared with the paper.
-use super::args::{Order, PIECE};
+use super::args::{Mode, Order, PIECE};
 use super::error::Error;
-use super::run::{self, Outcome, Watch};
+use super::going::Burnt;
+use super::run::{self, Outcome};
+use super::watch::Watch;
 use super::{files, show};
 use phuyurik::Stop;
 use std::path::{Path, PathBuf};
@@ -55,8 +57,12 @@ fn shown_in(folder: &Path) -> Result<String, Error> {
         slots: folder.join("line.slots"),
         slot: 0,
         budget: 100,
-        resume: false,
         piece: PIECE,
+        memory: None,
+        mode: Mode::Either,
+        new: true,
+        accept_row: false,
+        dry_run: false,
     };
     std::fs::write(&order.image, RECIPE).map_err(|why| Error::file(&order.image, why))?;
     let listing = show::list(&order.image)?;
@@ -67,7 +73,12 @@ fn shown_in(folder: &Path) -> Result<String, Error> {
     text += &format!("\nIts run on a blank row:\n{}", show::facts(&first));
     let row = files::read(&order.row, usize::MAX)?;
     text += &format!("\nThe row:\n{}", show::row(&order.row)?);
-    let second = run::run(&order, &mut Silent)?;
+    let again = Order {
+        new: false,
+        mode: Mode::Restart,
+        ..order.clone()
+    };
+    let second = run::run(&again, &mut Silent)?;
     is_as_on_card(&second, 2, Stop::AlreadyBurnt, 6, &[])?;
     text += &format!("\nA new start on that row:\n{}", show::facts(&second));
     let same = files::read(&order.row, usize::MAX)? == row;
@@ -94,5 +105,11 @@ fn is_as_on_card(
     fact(done.retired == retired, "the retired count is wrong")?;
     fact(state.stop() == Ok(stop), "the stop is wrong")?;
     fact(state.pc == pc, "the pc is wrong")?;
-    fact(done.burnt == burnt, "the burnt words are wrong")
+    let in_this_run = |(index, value): &(usize, u32)| Burnt {
+        index: *index,
+        value: *value,
+        in_this_run: true,
+    };
+    let is_burnt = burnt.iter().map(in_this_run).eq(done.burnt.iter().copied());
+    fact(is_burnt, "the burnt words are wrong")
 }

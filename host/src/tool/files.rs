@@ -1,7 +1,10 @@
-//! Files: reading, replacing as a list of small actions, and locks.
-use super::error::Error;
+//! Files: reading, writing as a list of small actions, and locks.
+use super::error::{Error, Kind};
+use super::row_file;
+use phuyurik::Row;
 use std::fs::{self, File, TryLockError};
 use std::io::{self, ErrorKind, Read, Seek, Write};
+use std::os::unix::fs::{FileExt, MetadataExt, PermissionsExt};
 use std::path::{Path, PathBuf};
 
 /// The file's name with an ending after it.
@@ -11,17 +14,29 @@ pub fn beside(path: &Path, ending: &str) -> PathBuf {
     PathBuf::from(name)
 }
 
-fn failed(path: &Path, why: io::Error) -> Error {
+pub fn failed(path: &Path, why: io::Error) -> Error {
     match why.kind() {
-        ErrorKind::NotFound => Error::file(path, "missing"),
+        ErrorKind::NotFound => Error::missing(path, "missing"),
         _ => Error::file(path, why),
+    }
+}
+
+/// A link that leads nowhere is an error: what it leads to may be back tomorrow.
+fn is_no_dangling_link(path: &Path) -> Result<(), Error> {
+    match fs::read_link(path) {
+        Ok(target) => {
+            let target = target.display();
+            let why = format!("a link to {target}, which is missing");
+            Err(Error::missing(path, why))
+        }
+        Err(_) => Ok(()),
     }
 }
 
 /// One name for a file, however it was given; the file itself need not be there.
 pub fn canonical(path: &Path) -> Result<PathBuf, Error> {
     match fs::canonicalize(path) {
-        Err(why) if why.kind() == ErrorKind::NotFound => {}
+        Err(why) if why.kind() == ErrorKind::NotFound => is_no_dangling_link(path)?,
         done => return done.map_err(|why| failed(path, why)),
     }
     let name = path
@@ -35,31 +50,69 @@ pub fn canonical(path: &Path) -> Result<PathBuf, Error> {
     Ok(folder.join(name))
 }
 
-/// At most the first `most` bytes of a file, or nothing if it is missing.
-pub fn read_if_there(path: &Path, most: usize) -> Result<Option<Vec<u8>>, Error> {
+fn read_opened(path: &Path, file: File, most: usize) -> Result<Vec<u8>, Error> {
     let mut bytes = Vec::new();
-    let file = match File::open(path) {
-        Err(why) if why.kind() == ErrorKind::NotFound => return Ok(None),
-        opened => opened.map_err(|why| failed(path, why))?,
+    let done = file.take(most as u64).read_to_end(&mut bytes);
+    done.map_err(|why| failed(path, why))?;
+    Ok(bytes)
+}
+
+/// At most the first `most` bytes of a regular file, or nothing if it is missing.
+pub fn read_if_there(path: &Path, most: usize) -> Result<Option<Vec<u8>>, Error> {
+    // Asked before it is opened: a pipe would be waited for.
+    match fs::metadata(path) {
+        Err(why) if why.kind() == ErrorKind::NotFound => {
+            return is_no_dangling_link(path).map(|()| None)
+        }
+        Ok(about) if !about.is_file() => return Err(Error::file(path, "not a regular file")),
+        about => about.map_err(|why| failed(path, why))?,
     };
-    file.take(most as u64)
-        .read_to_end(&mut bytes)
-        .map_err(|why| failed(path, why))?;
-    Ok(Some(bytes))
+    let file = File::open(path).map_err(|why| failed(path, why))?;
+    read_opened(path, file, most).map(Some)
 }
 
+/// At most the first `most` bytes of a file, or of whatever comes under this name.
 pub fn read(path: &Path, most: usize) -> Result<Vec<u8>, Error> {
-    read_if_there(path, most)?.ok_or_else(|| Error::file(path, "missing"))
+    let file = File::open(path).map_err(|why| failed(path, why))?;
+    read_opened(path, file, most)
 }
 
-/// A step of a save. A rename or a removal is on the disk before the next step begins, so a kill or
-/// a power cut leaves a front part of the list done, and beyond it a torn `.tmp` at worst.
+/// Opens a file to be written in place, if it may be. That root can write to it says nothing: who
+/// took the write bits away wants it kept. The files beside it go by its name, so it has only one.
+pub fn open_in_place(path: &Path) -> Result<File, Error> {
+    let about = fs::symlink_metadata(path).map_err(|why| failed(path, why))?;
+    if !about.is_file() {
+        return Err(Error::file(path, "not a regular file"));
+    }
+    if about.mode() & 0o222 == 0 {
+        return Err(Error::file(
+            path,
+            "write-protected: its mode has no write bit",
+        ));
+    }
+    if about.nlink() > 1 {
+        let why = format!(
+            "has {} names (hard links), but what is kept of it goes by its name",
+            about.nlink()
+        );
+        return Err(Error::file(path, why));
+    }
+    let opened = File::options().read(true).write(true).open(path);
+    opened.map_err(|why| failed(path, why))
+}
+
+/// A step of a save. Each is on the disk before the next begins, so a kill or a power cut leaves a
+/// front part of the list done, and beyond it a torn step at worst.
 #[derive(Debug)]
 pub enum Action {
     /// Writes the `.tmp` beside the file.
     WriteTmp(PathBuf, Vec<u8>),
     /// Renames the `.tmp` to the file.
     PutInPlace(PathBuf),
+    /// Writes these bytes at this place of a file that stays what it is.
+    WriteAt(PathBuf, u64, Vec<u8>),
+    /// Writes a row, in place where it is there.
+    Burn(PathBuf, Box<Row>),
     Remove(PathBuf),
 }
 
@@ -76,11 +129,20 @@ pub fn replacing(path: &Path, bytes: Vec<u8>) -> [Action; 2] {
     ]
 }
 
+pub fn replace(path: &Path, bytes: Vec<u8>) -> Result<(), Error> {
+    carry_out(&replacing(path, bytes))
+}
+
 pub fn carry_out(actions: &[Action]) -> Result<(), Error> {
     for action in actions {
         let (path, done) = match action {
-            Action::WriteTmp(path, bytes) => (path, fs::write(tmp(path), bytes)),
+            Action::WriteTmp(path, bytes) => (path, write_tmp(path, bytes)),
             Action::PutInPlace(path) => (path, put_in_place(path)),
+            Action::WriteAt(path, at, bytes) => (path, write_at(&open_in_place(path)?, *at, bytes)),
+            Action::Burn(path, row) => {
+                row_file::burn(path, row)?;
+                continue;
+            }
             Action::Remove(path) => (path, fs::remove_file(path).and_then(|()| sync_folder(path))),
         };
         done.map_err(|why| Error::file(path, why))?;
@@ -88,17 +150,61 @@ pub fn carry_out(actions: &[Action]) -> Result<(), Error> {
     Ok(())
 }
 
+/// What stands at the `.tmp` goes first, and the new one is made and never merely opened: a link
+/// there is not followed. It gets the mode of the file that it will replace, and its owner if it can.
+fn write_tmp(path: &Path, bytes: &[u8]) -> io::Result<()> {
+    let tmp = tmp(path);
+    match fs::remove_file(&tmp) {
+        Err(why) if why.kind() != ErrorKind::NotFound => return Err(why),
+        _ => {}
+    }
+    let mut file = File::options().write(true).create_new(true).open(&tmp)?;
+    if let Ok(old) = fs::metadata(path) {
+        // Only root may give a file away; anyone else's stays his own.
+        let _ = std::os::unix::fs::fchown(&file, Some(old.uid()), Some(old.gid()));
+        file.set_permissions(fs::Permissions::from_mode(old.mode() & 0o7777))?;
+    }
+    file.write_all(bytes)
+}
+
 fn put_in_place(path: &Path) -> io::Result<()> {
     let from = tmp(path);
     // Synced before the rename: a name never stands for bytes that are not on the disk yet.
-    File::options().write(true).open(&from)?.sync_all()?;
+    File::open(&from)?.sync_all()?;
     fs::rename(&from, path)?;
     sync_folder(path)
+}
+
+pub fn write_at(file: &File, at: u64, bytes: &[u8]) -> io::Result<()> {
+    file.write_all_at(bytes, at)?;
+    file.sync_all()
 }
 
 fn sync_folder(path: &Path) -> io::Result<()> {
     let folder = path.parent().expect("the path is canonical, of a file");
     File::open(folder)?.sync_all()
+}
+
+/// Makes a file if it is missing, and lengthens it with zeros if it is shorter. The lock beside it
+/// is waited for: whoever holds it does the same, and is done in a moment.
+pub fn grow(path: &Path, length: u64) -> Result<(), Error> {
+    let is_long_enough = |about: fs::Metadata| about.len() >= length;
+    if fs::metadata(path).is_ok_and(is_long_enough) {
+        return Ok(());
+    }
+    let _lock = Lock::wait(path)?;
+    let file = match fs::symlink_metadata(path) {
+        Ok(_) => open_in_place(path)?,
+        Err(_) => File::create_new(path).map_err(|why| failed(path, why))?,
+    };
+    // Looked at again: another run may have been here while this one waited.
+    let about = file.metadata().map_err(|why| failed(path, why))?;
+    if is_long_enough(about) {
+        return Ok(());
+    }
+    let done = file.set_len(length).and_then(|()| file.sync_all());
+    done.and_then(|()| sync_folder(path))
+        .map_err(|why| failed(path, why))
 }
 
 /// The lock beside a file, held until it is dropped or the process dies, however it dies. The lock
@@ -109,9 +215,30 @@ pub struct Lock {
     file: File,
 }
 
+pub fn lock_of(of: &Path) -> PathBuf {
+    beside(of, ".lock")
+}
+
+/// To be tried again in a moment.
+fn busy(path: &Path) -> Error {
+    Error::of(Kind::Busy, path, "held by another run: try again")
+}
+
 impl Lock {
-    pub fn take(of: &Path) -> Result<Lock, Error> {
-        let path = beside(of, ".lock");
+    /// The lock file's name, if it is not that of a link, which might lead to any file.
+    fn path(of: &Path) -> Result<PathBuf, Error> {
+        let path = lock_of(of);
+        match fs::symlink_metadata(&path).is_ok_and(|about| !about.is_file()) {
+            true => Err(Error::file(
+                &path,
+                "not a regular file, but a lock file goes there",
+            )),
+            false => Ok(path),
+        }
+    }
+
+    fn open(of: &Path) -> Result<Lock, Error> {
+        let path = Lock::path(of)?;
         let file = File::options()
             .read(true)
             .write(true)
@@ -119,11 +246,39 @@ impl Lock {
             .truncate(false)
             .open(&path)
             .map_err(|why| failed(&path, why))?;
-        match file.try_lock() {
-            Ok(()) => Ok(Lock { path, file }),
-            Err(TryLockError::WouldBlock) => Err(Error::file(of, "locked by another run")),
-            Err(TryLockError::Error(why)) => Err(Error::file(&path, why)),
+        Ok(Lock { path, file })
+    }
+
+    fn held(self, tried: Result<(), TryLockError>) -> Result<Lock, Error> {
+        match tried {
+            Ok(()) => Ok(self),
+            Err(TryLockError::WouldBlock) => Err(busy(&self.path)),
+            Err(TryLockError::Error(why)) => Err(Error::file(&self.path, why)),
         }
+    }
+
+    pub fn take(of: &Path) -> Result<Lock, Error> {
+        let lock = Lock::open(of)?;
+        let tried = lock.file.try_lock();
+        lock.held(tried)
+    }
+
+    fn wait(of: &Path) -> Result<Lock, Error> {
+        let lock = Lock::open(of)?;
+        let done = lock.file.lock();
+        done.map_err(|why| Error::file(&lock.path, why))?;
+        Ok(lock)
+    }
+
+    /// For one who only looks: no lock file is made, and one that is held is busy.
+    pub fn look(of: &Path) -> Result<Option<Lock>, Error> {
+        let path = Lock::path(of)?;
+        let file = match File::open(&path) {
+            Err(why) if why.kind() == ErrorKind::NotFound => return Ok(None),
+            opened => opened.map_err(|why| failed(&path, why))?,
+        };
+        let tried = file.try_lock_shared();
+        Lock { path, file }.held(tried).map(Some)
     }
 
     /// What the last holder left in the lock file.
@@ -147,50 +302,5 @@ impl Lock {
             // The lock file itself may be new.
             .and_then(|()| sync_folder(&self.path));
         done.map_err(|why| Error::file(&self.path, why))
-    }
-}
-
-#[cfg(test)]
-mod tests {
-    use super::*;
-    use testing::Folder;
-
-    #[test]
-    fn a_file_is_replaced_whole() {
-        let folder = Folder::new();
-        let path = folder.file("a");
-        carry_out(&replacing(&path, b"long text".to_vec())).expect("written");
-        carry_out(&replacing(&path, b"short".to_vec())).expect("written");
-        assert_eq!(read(&path, 100).expect("there"), b"short");
-        assert_eq!(read(&path, 2).expect("there"), b"sh");
-        assert!(!tmp(&path).exists());
-    }
-
-    #[test]
-    fn a_second_lock_is_refused_until_the_first_is_dropped() {
-        let folder = Folder::new();
-        let path = folder.file("a");
-        let mut first = Lock::take(&path).expect("free");
-        assert!(Lock::take(&path).is_err());
-        first.leave_remark(b"a longer remark").expect("written");
-        first.leave_remark(b"a remark").expect("written");
-        assert_eq!(first.remark().expect("read"), b"a remark");
-        drop(first);
-        let mut second = Lock::take(&path).expect("free again");
-        assert_eq!(second.remark().expect("read"), b"a remark");
-    }
-
-    #[test]
-    fn a_file_has_one_name_whether_it_is_there_or_not() {
-        let folder = Folder::new();
-        let path = folder.file("a");
-        let name = folder.path().file_name().expect("it has a name");
-        let roundabout = folder.file("../").join(name).join("a");
-        assert_eq!(canonical(&roundabout).expect("named"), path);
-        fs::write(&path, b"").expect("written");
-        assert_eq!(canonical(&roundabout).expect("named"), path);
-        std::os::unix::fs::symlink(&path, folder.file("b")).expect("linked");
-        assert_eq!(canonical(&folder.file("b")).expect("named"), path);
-        assert!(canonical(&folder.file("none/a")).is_err());
     }
 }

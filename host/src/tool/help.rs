@@ -1,21 +1,32 @@
-//! The help texts. The exit codes at the end of each come from the lists of stops and refusals.
-use super::error::refusal_code;
+//! The help texts. The exit codes at the end of each come from the lists of what can go wrong.
+use super::error::{refusal_code, Kind};
 use super::show::{stop_code, stop_text};
 use phuyurik::Argument::{self, Memory, Row, Slots, State};
 use phuyurik::{Refusal, Stop};
 
 const COLUMNS: usize = 80;
-const FILES: &str =
-    "a file is missing, locked, damaged, of another run, or cannot be read or written";
+
+/// What can be wrong with a file for one who only looks: whatever else is, he shows.
+const TO_LOOK: [Kind; 3] = [Kind::File, Kind::Missing, Kind::Output];
+
+/// What a command does, as far as its exit codes tell.
+#[derive(Clone, Copy, PartialEq)]
+enum Does {
+    /// It runs a recipe, which comes to a stop.
+    Runs,
+    /// It looks at files, and changes none.
+    Looks,
+    /// It changes files, if the flag that says yes is there.
+    Mends,
+    /// It compares what it sees with the paper.
+    Compares,
+}
 
 /// A text, and what there is for the exit code to tell.
 pub struct Help {
     pub command: &'static str,
     about: &'static str,
-    /// It runs a recipe, which comes to a stop.
-    runs: bool,
-    /// It compares what it sees with the paper.
-    compares: bool,
+    does: Does,
     /// What it lends to the library, which may refuse it.
     lends: &'static [Argument],
 }
@@ -33,22 +44,32 @@ pub fn program() -> String {
 
 /// The exit codes that these commands have among them.
 fn codes(commands: &[&Help]) -> String {
-    let runs = commands.iter().any(|command| command.runs);
+    let any = |does: Does| commands.iter().any(|command| command.does == does);
     let lends: Vec<Argument> = commands
         .iter()
         .flat_map(|command| command.lends)
         .copied()
         .collect();
-    let mut text = match runs {
-        true => line(0, "done: ecall, or paused because the budget is used up"),
+    let mut text = match any(Does::Runs) {
+        true => line(
+            0,
+            "done: the recipe came to its ecall, or the command to its end",
+        ),
         false => line(0, "done"),
     };
-    if commands.iter().any(|command| command.compares) {
+    if any(Does::Compares) {
         text += &line(1, "demo: a fact was not as the paper has it");
     }
-    text += &line(2, "wrong usage");
-    text += &line(3, FILES);
-    if runs {
+    text += &match any(Does::Mends) {
+        true => line(2, "wrong usage, or without --yes: nothing was changed"),
+        false => line(2, "wrong usage"),
+    };
+    for kind in Kind::ALL {
+        if any(Does::Runs) || any(Does::Mends) || TO_LOOK.contains(&kind) {
+            text += &line(kind.code(), kind.words());
+        }
+    }
+    if any(Does::Runs) {
         for stop in Stop::ALL.iter().filter(|stop| stop_code(**stop) > 0) {
             text += &line(stop_code(*stop), &stop_text(*stop));
         }
@@ -56,7 +77,8 @@ fn codes(commands: &[&Help]) -> String {
     for refusal in Refusal::of(&lends) {
         text += &line(refusal_code(refusal), &refusal.to_string());
     }
-    format!("Exit codes{}:\n{text}", rule(runs, !lends.is_empty()))
+    let rule = rule(any(Does::Runs), !lends.is_empty());
+    format!("Exit codes{rule}:\n{text}")
 }
 
 /// How a stop or a refusal becomes an exit code, where there can be one.
@@ -91,11 +113,16 @@ A run that was cut off, by its budget, a kill or a power cut, is carried on
 from what was saved; a burnt word is never burnt again.
 
 Commands:
-  run   runs a recipe on a part, or carries a saved run on
-  list  lists the instructions of a recipe
-  row   shows the words of a part's row
-  slot  shows a saved state
-  demo  shows all of it on the paper's recipe, in a temporary folder
+  run     carries the run in a slot on, or starts the recipe
+  list    lists the instructions of a recipe
+  row     shows the words of a part's row
+  slot    shows a saved state
+  status  shows the runs and rows of a folder, and what to do next
+  forget  gives the run in a slot up
+  adopt   tells a run where its row and slots are now
+  settle  carries out a save that was cut short, or sets it aside
+  mend    makes a slots file again from the memory files
+  demo    shows all of it on the paper's recipe, in a temporary folder
 
   phuyurik COMMAND --help says more; phuyurik --version says which this is.
 
@@ -107,40 +134,53 @@ const RUN: Help = Help {
     command: "run",
     about: "\
 Usage: phuyurik run IMAGE --row FILE --slots FILE --slot K --budget N
-                    [--resume] [--piece N]
+                    [--resume | --restart] [--new] [--accept-row]
+                    [--memory N] [--piece N] [--dry-run]
 
 Runs the recipe IMAGE for at most N steps on the part whose row is in FILE,
 with its state in slot K, and tells what was retired, the count, the stop, the
-pc and the words burnt in this run.
+pc and the words burnt since the recipe's start. A paused run of this recipe
+and this row in slot K is carried on. One that has ended is told of, if standard
+output has not taken its end yet. Otherwise the recipe starts, unless a run on
+this row is paused elsewhere. So the same command, repeated while it exits with
+10, comes to the recipe's end.
 
-  --row FILE    the part's row, 512 bytes; if it is missing the part is new,
-                and a blank row is made
-  --slots FILE  saved states, 144 bytes each; made if missing
+  --row FILE    the part's row, 512 bytes
+  --slots FILE  saved states, 144 bytes each; made and lengthened as needed
   --slot K      the slot of this run, from 0
   --budget N    at most N steps
-  --resume      carries the run in slot K on; without it the recipe starts
-                anew, on the row as it is
+  --resume      carries the run in slot K on or tells its end, and never starts
+  --restart     starts anew, on the row as it is, although a run on this row is
+                paused: in slot K, which gives that run up, or elsewhere
+  --new         the part is new: its row is not there yet, and is made blank
+  --accept-row  the part was exchanged: the row is taken as it is, although
+                words of it are known to be burnt that are blank or other there
+  --memory N    memory of N bytes: the image, and zeros after it
   --piece N     saves after every N steps (default 5000000)
+  --dry-run     runs on copies and tells which words would be burnt; no file is
+                made or changed
 
 State, memory and row are saved as one moment, at the start and after every
-piece. After a kill or a power cut, --resume carries on from the last one.
+piece. After a kill or a power cut, the next run carries on from the last one.
 
 Files beside the row and the slots:
   ROW.journal       a save under way; the next run carries it out. Never
                     remove it: it may be all that knows of a burnt word.
-  SLOTS.K.memory    the memory of the run in slot K
-  ROW.lock, SLOTS.lock
+  ROW.seen          the words that are known to be burnt in this row, and where
+                    a run on it was last paused
+  SLOTS.K.memory    the run in slot K, with its memory
+  ROW.lock, SLOTS.K.lock, SLOTS.lock
                     held by a run while it works; they stay, also between runs
   *.tmp             left by a run that was killed; harmless
-Do not move them: a run knows its row by the path.
+A run knows its row by the path: where a folder was moved, see adopt.
 
 Example:
-  phuyurik run trim.bin --row part.row --slots line.slots --slot 0 --budget 1000
   phuyurik run trim.bin --row part.row --slots line.slots --slot 0 \\
-      --budget 1000 --resume
+      --budget 1000 --new
+  while phuyurik run trim.bin --row part.row --slots line.slots --slot 0 \\
+      --budget 1000; [ $? -eq 10 ]; do :; done
 ",
-    runs: true,
-    compares: false,
+    does: Does::Runs,
     lends: &[Memory, Row, Slots, State],
 };
 
@@ -155,8 +195,7 @@ instruction have a question mark. An image over 65,536 bytes gives `too long`.
 Example:
   phuyurik list trim.bin
 ",
-    runs: false,
-    compares: false,
+    does: Does::Looks,
     lends: &[],
 };
 
@@ -166,13 +205,13 @@ const ROW: Help = Help {
 Usage: phuyurik row FILE
 
 Shows the burnt words of a row: index, address, value in decimal and in
-hexadecimal; then how many words are burnt and how many blank.
+hexadecimal; then how many words are burnt and how many blank. A save that was
+cut short is shown as the next run will carry it out.
 
 Example:
   phuyurik row part.row
 ",
-    runs: false,
-    compares: false,
+    does: Does::Looks,
     lends: &[Row],
 };
 
@@ -182,13 +221,94 @@ const SLOT: Help = Help {
 Usage: phuyurik slot FILE K
 
 Shows the state in slot K: pc, the registers that are not 0, the count of
-retired steps, and the stop.
+retired steps, and the stop. A save that was cut short is shown as the next run
+will carry it out.
 
 Example:
   phuyurik slot line.slots 0
 ",
-    runs: false,
-    compares: false,
+    does: Does::Looks,
+    lends: &[Slots, State],
+};
+
+const STATUS: Help = Help {
+    command: "status",
+    about: "\
+Usage: phuyurik status [FOLDER]
+
+Shows the runs and the rows of a folder (this one, if none is given), saves that
+were cut short, whatever is damaged or missing, and what to do next.
+
+Example:
+  phuyurik status
+",
+    does: Does::Looks,
+    lends: &[],
+};
+
+const FORGET: Help = Help {
+    command: "forget",
+    about: "\
+Usage: phuyurik forget SLOTS K --yes
+
+Gives the run in slot K up, where its row is gone or its memory file damaged:
+its record becomes zeros, and its memory file is set aside as
+SLOTS.K.memory.old. The words that it knew to be burnt go into ROW.seen.
+Without --yes it only says what it would do.
+
+Example:
+  phuyurik forget line.slots 0 --yes
+",
+    does: Does::Mends,
+    lends: &[Slots, State],
+};
+
+const ADOPT: Help = Help {
+    command: "adopt",
+    about: "\
+Usage: phuyurik adopt SLOTS K --row FILE --yes
+
+Tells the run in slot K, and a save of it that was cut short, that its row is
+FILE and its slots are SLOTS: the folder was moved. The row must have the words
+that the run knows to be burnt. Without --yes it only says what it would do.
+
+Example:
+  phuyurik adopt line.slots 0 --row part.row --yes
+",
+    does: Does::Mends,
+    lends: &[Row, Slots, State],
+};
+
+const SETTLE: Help = Help {
+    command: "settle",
+    about: "\
+Usage: phuyurik settle ROW [--discard] --yes
+
+Carries out a save of ROW that was cut short; a slots file that is missing is
+made again. With --discard the save is set aside as ROW.journal.old, and the
+words that it knows to be burnt go into ROW.seen. Without --yes it only says
+what it would do.
+
+Example:
+  phuyurik settle part.row --yes
+",
+    does: Does::Mends,
+    lends: &[Row, Slots, State],
+};
+
+const MEND: Help = Help {
+    command: "mend",
+    about: "\
+Usage: phuyurik mend SLOTS --yes
+
+Writes the record of each memory file SLOTS.K.memory into its slot, after the
+slots file was lost or an old copy was brought back; makes it if it is missing.
+Without --yes it only says what it would do.
+
+Example:
+  phuyurik mend line.slots --yes
+",
+    does: Does::Mends,
     lends: &[Slots, State],
 };
 
@@ -205,10 +325,11 @@ it.
 Example:
   phuyurik demo
 ",
-    runs: false,
-    compares: true,
+    does: Does::Compares,
     // what it lends is its own, and is accepted
     lends: &[],
 };
 
-pub const COMMANDS: &[Help] = &[RUN, LIST, ROW, SLOT, DEMO];
+pub const COMMANDS: &[Help] = &[
+    RUN, LIST, ROW, SLOT, STATUS, FORGET, ADOPT, SETTLE, MEND, DEMO,
+];

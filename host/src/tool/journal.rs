@@ -1,23 +1,31 @@
 //! The saved moment of a run: state, memory and row, always of one and the same step.
 //!
 //! A moment is saved by writing all of it to the journal beside the row; from then on it counts.
-//! Then the memory, the slots and the row are replaced, and the journal is removed. A journal that
-//! is found later is carried out again, which does no harm however much of it was done.
+//! Then the memory file is replaced, the record and the row are written in place, what was seen of
+//! the row is replaced, and the journal is removed. A journal that is found later is carried out
+//! again, which does no harm however much of it was done (`settling.rs`).
 //!
 //! The journal is removed and not kept: a run in another slot may change the row in between, and an
 //! old copy of the row must never come back.
 use super::error::Error;
-use super::files::{self, Action, Lock};
-use super::sealed::{digest, seal, unseal};
-use phuyurik::{Row, Slots, RECORD};
+use super::files::{self, Action};
+use super::known::Seen;
+use super::place::Place;
+use super::row_file;
+use super::sealed::{digest, seal, unseal, Broken};
+use phuyurik::{Board, Row, Slots, State, RECORD};
 use std::ffi::OsStr;
 use std::os::unix::ffi::OsStrExt;
 use std::path::{Path, PathBuf};
 
-const JOURNAL: &[u8; 8] = b"phuyJRN1";
-const MEMORY: &[u8; 8] = b"phuyMEM1";
+const JOURNAL: &[u8; 8] = b"phuyJRN2";
+const MEMORY: &[u8; 8] = b"phuyMEM2";
 
-/// Enough of an image to know it again.
+/// A slots file is made or lengthened for at most this many: a slip in a number should not fill a
+/// disk.
+pub const MOST_SLOTS: usize = 4096;
+
+/// Enough of an image to know it again: of the image itself, before zeros are put after it.
 #[derive(Clone, Copy, Debug, PartialEq, Eq)]
 pub struct ImageMark {
     pub length: u64,
@@ -33,34 +41,70 @@ impl ImageMark {
     }
 }
 
-/// The paths are canonical. The row's file stands for the part: nothing here talks to a socket.
+/// A run as it was last saved, which is the content of its memory file. The row's path is
+/// canonical, and stands for the part: nothing here talks to a socket.
 #[derive(Clone, Debug, PartialEq, Eq)]
-pub struct Moment {
-    pub row_path: PathBuf,
-    pub slots_path: PathBuf,
-    pub slot: usize,
-    pub image: ImageMark,
-    pub record: [u8; RECORD],
-    pub row: Row,
-    pub memory: Vec<u8>,
-}
-
-/// The content of a memory file: a run's memory, and what it belongs to.
-#[derive(Debug, PartialEq, Eq)]
 pub struct Memory {
     pub row_path: PathBuf,
+    /// The number of the save, counted for each row.
+    pub serial: u64,
     pub image: ImageMark,
-    /// The digest of the record that was saved with it.
-    pub record: u64,
+    pub record: [u8; RECORD],
+    /// The row as the run last saw it.
+    pub row: Row,
+    /// The words that this run burnt since the recipe's start, a bit for each.
+    pub burnt: u64,
+    /// It has ended, and standard output has taken the report of that.
+    pub told: bool,
     pub bytes: Vec<u8>,
+}
+
+/// A run as it is saved, and the slot that it is saved in. The slots' path is canonical.
+#[derive(Clone, Debug, PartialEq, Eq)]
+pub struct Moment {
+    pub slots_path: PathBuf,
+    pub slot: usize,
+    /// What `ROW.seen` remembers from this save on.
+    pub last_paused: Option<Place>,
+    pub run: Memory,
 }
 
 pub fn journal_of(row_path: &Path) -> PathBuf {
     files::beside(row_path, ".journal")
 }
 
+/// What the names of a slot's own files begin with: its lock is that of this name.
+pub fn slot_name(slots_path: &Path, slot: usize) -> PathBuf {
+    files::beside(slots_path, &format!(".{slot}"))
+}
+
 pub fn memory_of(slots_path: &Path, slot: usize) -> PathBuf {
-    files::beside(slots_path, &format!(".{slot}.memory"))
+    files::beside(&slot_name(slots_path, slot), ".memory")
+}
+
+/// The slot whose memory file of this slots file has this name, if it is one.
+pub fn slot_of_memory(slots_name: &OsStr, name: &OsStr) -> Option<usize> {
+    let rest = name.as_bytes().strip_prefix(slots_name.as_bytes())?;
+    let number = rest.strip_prefix(b".")?.strip_suffix(b".memory")?;
+    let number: usize = std::str::from_utf8(number).ok()?.parse().ok()?;
+    // Only the name that the tool writes: no sign, no zeros before it.
+    (rest == format!(".{number}.memory").as_bytes()).then_some(number)
+}
+
+/// The slots that have a memory file, in order, whether or not the slots file has them or is there.
+pub fn slots_with_memory(slots_path: &Path) -> Result<Vec<usize>, Error> {
+    let folder = slots_path.parent().expect("the path is canonical");
+    let name = slots_path.file_name().expect("the path is canonical");
+    let mut slots = Vec::new();
+    for entry in folder
+        .read_dir()
+        .map_err(|why| files::failed(folder, why))?
+    {
+        let entry = entry.map_err(|why| files::failed(folder, why))?;
+        slots.extend(slot_of_memory(name, &entry.file_name()));
+    }
+    slots.sort_unstable();
+    Ok(slots)
 }
 
 pub fn path_from(bytes: &[u8]) -> PathBuf {
@@ -75,184 +119,226 @@ fn number(field: &[u8]) -> Option<u64> {
     Some(u64::from_le_bytes(field.try_into().ok()?))
 }
 
+fn yes_or_no(field: &[u8]) -> Option<bool> {
+    match field {
+        [0] => Some(false),
+        [1] => Some(true),
+        _ => None,
+    }
+}
+
+/// The fields of a run, in the order of the files.
+type Fields<'a> = [&'a [u8]; 9];
+
 impl Memory {
     /// The memory file of a slot, or nothing if it is missing.
     pub fn read(slots_path: &Path, slot: usize) -> Result<Option<Memory>, Error> {
         let path = memory_of(slots_path, slot);
-        match files::read_if_there(&path, usize::MAX)? {
-            None => Ok(None),
-            Some(bytes) => match Memory::from_bytes(&bytes) {
-                None => Err(Error::file(&path, "damaged")),
-                found => Ok(found),
-            },
-        }
-    }
-
-    fn from_bytes(bytes: &[u8]) -> Option<Memory> {
-        let [row_path, length, image, record, bytes] = unseal(MEMORY, bytes)?;
-        let image = ImageMark {
-            length: number(length)?,
-            digest: number(image)?,
+        let Some(bytes) = files::read_if_there(&path, usize::MAX)? else {
+            return Ok(None);
         };
-        (bytes.len() as u64 == image.length).then_some(Memory {
-            row_path: path_from(row_path),
-            image,
-            record: number(record)?,
-            bytes: bytes.to_vec(),
+        let memory = unseal(MEMORY, &bytes)
+            .and_then(|fields| Memory::from_fields(fields).ok_or(Broken::Damaged));
+        memory.map(Some).map_err(|broken| {
+            let slots = slots_path.display();
+            let way_on =
+                format!("bring a copy of it back, or give the run up (forget {slots} {slot})");
+            Error::broken(&path, broken, &way_on)
         })
     }
-}
 
-impl Moment {
-    pub fn to_journal(&self) -> Vec<u8> {
-        let fields = [
-            path_bytes(&self.row_path),
-            path_bytes(&self.slots_path),
-            &(self.slot as u64).to_le_bytes(),
-            &self.image.length.to_le_bytes(),
-            &self.image.digest.to_le_bytes(),
-            &self.record,
-            self.row.as_ref(),
-            &self.memory,
-        ];
-        seal(JOURNAL, &fields)
-    }
-
-    fn from_journal(bytes: &[u8]) -> Option<Moment> {
-        let [row_path, slots_path, slot, length, image, record, row, memory] =
-            unseal(JOURNAL, bytes)?;
-        Some(Moment {
+    /// Nothing that the library would refuse: a run that was saved had been accepted by it.
+    fn from_fields(fields: Fields) -> Option<Memory> {
+        let [row_path, serial, length, image, record, row, burnt, told, bytes] = fields;
+        let memory = Memory {
             row_path: path_from(row_path),
-            slots_path: path_from(slots_path),
-            slot: usize::try_from(number(slot)?).ok()?,
+            serial: number(serial)?,
             image: ImageMark {
                 length: number(length)?,
                 digest: number(image)?,
             },
             record: record.try_into().ok()?,
             row: row.try_into().ok()?,
-            memory: memory.to_vec(),
-        })
+            burnt: number(burnt)?,
+            told: yes_or_no(told)?,
+            bytes: bytes.to_vec(),
+        };
+        let mut copy = memory.clone();
+        let accepted = Board::new(&mut copy.bytes, &mut copy.row)
+            .run_slot(&mut Slots::new(&mut copy.record), 0, 0)
+            .is_ok();
+        (accepted && memory.bytes.len() as u64 >= memory.image.length).then_some(memory)
     }
 
-    fn memory_file(&self) -> Vec<u8> {
-        let fields = [
+    /// Gives the fields to whoever seals them; some of them live only here.
+    fn with_fields<T>(&self, seal: impl FnOnce(Fields) -> T) -> T {
+        seal([
             path_bytes(&self.row_path),
+            &self.serial.to_le_bytes(),
             &self.image.length.to_le_bytes(),
             &self.image.digest.to_le_bytes(),
-            &digest(&self.record).to_le_bytes(),
-            &self.memory,
-        ];
-        seal(MEMORY, &fields)
+            &self.record,
+            self.row.as_ref(),
+            &self.burnt.to_le_bytes(),
+            &[u8::from(self.told)],
+            &self.bytes,
+        ])
     }
 
-    /// The slots as they are, with this moment's record in its slot.
-    fn slots_file(&self) -> Result<Vec<u8>, Error> {
-        let mut slots = Slots::new(files::read(&self.slots_path, usize::MAX)?);
-        Slots::new(&self.record)
-            .read(0)
-            .and_then(|state| slots.write(self.slot, &state))
-            .map_err(|error| Error::of_library(&self.slots_path, error))?;
-        Ok(slots.into_inner())
+    pub fn to_bytes(&self) -> Vec<u8> {
+        self.with_fields(|fields| seal(MEMORY, &fields))
     }
 
-    /// Puts a moment whose journal stands into its files.
-    pub fn settling(&self) -> Result<Vec<Action>, Error> {
-        let memory = memory_of(&self.slots_path, self.slot);
-        let mut actions = Vec::new();
-        actions.extend(files::replacing(&memory, self.memory_file()));
-        actions.extend(files::replacing(&self.slots_path, self.slots_file()?));
-        actions.extend(files::replacing(&self.row_path, self.row.as_ref().to_vec()));
-        actions.push(Action::Remove(journal_of(&self.row_path)));
-        Ok(actions)
+    /// The state in its record.
+    pub fn state(&self) -> Result<State, phuyurik::Error> {
+        Slots::new(&self.record).read(0)
     }
 
-    /// The whole save. It counts as soon as the second action is done.
-    pub fn saving(&self) -> Result<Vec<Action>, Error> {
-        let journal = journal_of(&self.row_path);
-        let mut actions = Vec::from(files::replacing(&journal, self.to_journal()));
-        actions.extend(self.settling()?);
-        Ok(actions)
+    /// Whether both are of one and the same save, told or not.
+    pub fn is_same_save(&self, other: &Memory) -> bool {
+        let told = other.told;
+        *other
+            == Memory {
+                told,
+                ..self.clone()
+            }
     }
 }
 
-/// The moment that a journal beside this row holds. A damaged journal is an error: it may be the
-/// only place that knows of a burnt word.
-pub fn pending(row_path: &Path) -> Result<Option<Moment>, Error> {
+impl Moment {
+    pub fn to_journal(&self) -> Vec<u8> {
+        self.run.with_fields(|run| {
+            let slot = (self.slot as u64).to_le_bytes();
+            let last_paused = Place::to_field(self.last_paused.as_ref());
+            let mut fields = vec![path_bytes(&self.slots_path), &slot, &last_paused];
+            fields.extend(run);
+            seal(JOURNAL, &fields)
+        })
+    }
+
+    fn from_journal(bytes: &[u8]) -> Result<Moment, Broken> {
+        let fields: [&[u8]; 12] = unseal(JOURNAL, bytes)?;
+        let (own, run) = fields.split_at(3);
+        let moment = || {
+            Some(Moment {
+                slots_path: path_from(own[0]),
+                slot: usize::try_from(number(own[1])?).ok()?,
+                last_paused: Place::from_field(own[2]).ok()?,
+                run: Memory::from_fields(run.try_into().ok()?)?,
+            })
+        };
+        moment().ok_or(Broken::Damaged)
+    }
+
+    pub fn memory_path(&self) -> PathBuf {
+        memory_of(&self.slots_path, self.slot)
+    }
+
+    pub fn place(&self) -> Place {
+        Place {
+            slots_path: self.slots_path.clone(),
+            slot: self.slot,
+        }
+    }
+
+    /// A paused run is the one to remember, until it has ended itself.
+    pub fn remember_place(&mut self) {
+        let own = self.place();
+        self.last_paused = match self.run.is_paused() {
+            true => Some(own),
+            false => self.last_paused.take().filter(|place| *place != own),
+        };
+    }
+
+    /// What is seen of the row once this has been saved.
+    pub fn seen(&self) -> Seen {
+        Seen {
+            serial: self.run.serial,
+            row: self.run.row.clone(),
+            last_paused: self.last_paused.clone(),
+        }
+    }
+
+    /// Where the slots file's bytes end that this moment's record needs.
+    pub fn slots_end(&self) -> u64 {
+        (self.slot as u64)
+            .saturating_add(1)
+            .saturating_mul(RECORD as u64)
+    }
+
+    /// Puts a moment whose journal stands into its files.
+    pub fn settling(&self) -> Vec<Action> {
+        let row_path = &self.run.row_path;
+        let mut actions = Vec::from(files::replacing(&self.memory_path(), self.run.to_bytes()));
+        actions.push(Action::WriteAt(
+            self.slots_path.clone(),
+            self.slots_end() - RECORD as u64,
+            self.run.record.to_vec(),
+        ));
+        actions.push(Action::Burn(row_path.clone(), self.run.row.clone().into()));
+        actions.extend(self.seen().writing(row_path));
+        actions.push(Action::Remove(journal_of(row_path)));
+        actions
+    }
+
+    /// The whole save. It counts as soon as the second action is done.
+    pub fn saving(&self) -> Vec<Action> {
+        let journal = journal_of(&self.run.row_path);
+        let mut actions = Vec::from(files::replacing(&journal, self.to_journal()));
+        actions.extend(self.settling());
+        actions
+    }
+
+    /// That no one else has used the row or the slot since this run last looked: the locks forbid
+    /// it, but lock files can be removed by hand. Given are the number that was last seen of the row
+    /// and that of the memory file, if the slot holds this run already.
+    pub fn may_be_saved(&self, seen: u64, memory: Option<u64>) -> Result<(), Error> {
+        let run = &self.run;
+        let journal = journal_of(&run.row_path);
+        let others = |path: &Path| Error::other_run(path, "another run has used it meanwhile");
+        if journal.symlink_metadata().is_ok() {
+            return Err(others(&journal));
+        }
+        if Seen::read(&run.row_path)?.serial != seen {
+            return Err(others(&run.row_path));
+        }
+        if let Some(serial) = memory {
+            let there = Memory::read(&self.slots_path, self.slot)?;
+            if !there.is_some_and(|there| there.row_path == run.row_path && there.serial == serial)
+            {
+                return Err(others(&self.memory_path()));
+            }
+        }
+        match row_file::read(&run.row_path)? {
+            Some(bytes) => row_file::takes_nothing_back(&run.row_path, &bytes, &run.row),
+            None => Ok(()),
+        }
+    }
+}
+
+/// The moment that a journal beside this row holds, whatever row it names. A damaged journal is an
+/// error: it may be the only place that knows of a burnt word.
+pub fn read_journal(row_path: &Path) -> Result<Option<Moment>, Error> {
     let path = journal_of(row_path);
     let Some(bytes) = files::read_if_there(&path, usize::MAX)? else {
         return Ok(None);
     };
-    let Some(moment) = Moment::from_journal(&bytes) else {
-        return Err(Error::file(&path, "damaged journal"));
-    };
-    if moment.row_path != row_path {
-        let of = moment.row_path.display();
-        return Err(Error::file(&path, format!("journal of another row: {of}")));
-    }
-    Ok(Some(moment))
+    let row = row_path.display();
+    let moment = Moment::from_journal(&bytes).map_err(|broken| {
+        let way_on = format!("bring a copy of it back, or set it aside (settle {row} --discard)");
+        Error::broken(&path, broken, &way_on)
+    });
+    moment.map(Some)
 }
 
-/// Carries out what an earlier run left undone. The row's lock and that of the slots which the
-/// journal names must be held.
-fn settle(moment: &Moment) -> Result<(), Error> {
-    files::carry_out(&moment.settling()?)
-}
-
-/// The locks of a run, and what must be settled before it may begin.
-#[derive(Debug)]
-pub struct Locks {
-    row_path: PathBuf,
-    slots_path: PathBuf,
-    _row: Lock,
-    slots: Lock,
-}
-
-impl Locks {
-    pub fn take(row_path: &Path, slots_path: &Path) -> Result<Locks, Error> {
-        Ok(Locks {
-            row_path: row_path.to_path_buf(),
-            slots_path: slots_path.to_path_buf(),
-            _row: Lock::take(row_path)?,
-            slots: Lock::take(slots_path)?,
-        })
-    }
-
-    /// Carries out this row's journal, and the journal of the row that was last run with these
-    /// slots: it may hold a record that is not in the slots yet. The slots' lock file remembers
-    /// which row that is. Gives the moments carried out.
-    pub fn settle_both(&mut self) -> Result<Vec<Moment>, Error> {
-        let mut settled = Vec::new();
-        if let Some(moment) = pending(&self.row_path)? {
-            let _other = match moment.slots_path == self.slots_path {
-                true => None,
-                false => Some(Lock::take(&moment.slots_path)?),
-            };
-            settle(&moment)?;
-            settled.push(moment);
+/// The moment that a journal beside this row holds, which must be of this row.
+pub fn pending(row_path: &Path) -> Result<Option<Moment>, Error> {
+    match read_journal(row_path)? {
+        Some(moment) if moment.run.row_path != row_path => {
+            let of = moment.run.row_path.display();
+            let why = format!("of another row, {of}: was the folder moved? (adopt)");
+            Err(Error::other_run(&journal_of(row_path), why))
         }
-        let last = self.slots.remark()?;
-        if last == path_bytes(&self.row_path) {
-            return Ok(settled);
-        }
-        settled.extend(self.settle_last(&path_from(&last))?);
-        // Only now, with nothing left to settle for that row, may its name be forgotten.
-        self.slots.leave_remark(path_bytes(&self.row_path))?;
-        Ok(settled)
-    }
-
-    fn settle_last(&self, last: &Path) -> Result<Option<Moment>, Error> {
-        // A path that is not canonical was torn while it was written: then no run had begun.
-        if !last.is_absolute() {
-            return Ok(None);
-        }
-        // One for other slots is left alone: that run may be at work right now.
-        let Some(moment) = pending(last)?.filter(|moment| moment.slots_path == self.slots_path)
-        else {
-            return Ok(None);
-        };
-        let _row = Lock::take(last)?;
-        settle(&moment)?;
-        Ok(Some(moment))
+        found => Ok(found),
     }
 }

@@ -1,33 +1,56 @@
 //! The commands. Each gives a text for standard output and an exit code, or one error.
 mod args;
 mod demo;
+mod elf;
+mod end;
 mod error;
 mod files;
+#[cfg(test)]
+mod files_tests;
+mod going;
 mod help;
+mod image;
 mod journal;
 #[cfg(test)]
 mod journal_tests;
+mod known;
+mod place;
+mod row_file;
 mod run;
 #[cfg(test)]
 mod run_tests;
 mod sealed;
+mod settling;
 mod show;
+mod slot;
+mod status;
+mod view;
+mod watch;
+mod ways;
 
 use args::Command;
-use error::Error;
+use end::End;
+use error::{Error, Kind};
 use std::ffi::OsString;
 use std::io::{ErrorKind, Write};
 use std::process::ExitCode;
 
 /// What a command that came to its end has to say.
-struct Answer {
-    text: String,
-    code: u8,
+pub struct Answer {
+    pub text: String,
+    pub code: u8,
+    /// The end of a run that it tells of.
+    pub end: Option<End>,
 }
 
 impl Answer {
-    fn good(text: String) -> Answer {
-        Answer { text, code: 0 }
+    pub fn of(text: String, code: u8) -> Answer {
+        let end = None;
+        Answer { text, code, end }
+    }
+
+    pub fn good(text: String) -> Answer {
+        Answer::of(text, 0)
     }
 }
 
@@ -35,7 +58,7 @@ pub fn main(words: Vec<OsString>) -> ExitCode {
     let code = match answer(words).and_then(print) {
         Ok(code) => code,
         Err(error) => {
-            eprintln!("phuyurik: {error}");
+            watch::say(&error.to_string());
             error.exit_code()
         }
     };
@@ -52,9 +75,14 @@ fn answer(words: Vec<OsString>) -> Result<Answer, Error> {
         Command::List(image) => show::list(&image).map(Answer::good),
         Command::Row(file) => show::row(&file).map(Answer::good),
         Command::Slot(file, k) => show::slot(&file, k).map(Answer::good),
+        Command::Status(folder) => status::status(&folder).map(Answer::good),
+        Command::Forget { slots, k, yes } => ways::forget(&slots, k, yes),
+        Command::Adopt { slots, k, row, yes } => ways::adopt(&slots, k, &row, yes),
+        Command::Settle { row, discard, yes } => ways::settle(&row, discard, yes),
+        Command::Mend { slots, yes } => ways::mend(&slots, yes),
         Command::Demo => demo::demo().map(Answer::good),
         Command::Run(order) => {
-            let done = run::run(&order, &mut run::Terminal::new())?;
+            let done = run::run(&order, &mut watch::Terminal::new())?;
             let stop = done
                 .state
                 .stop()
@@ -62,18 +90,23 @@ fn answer(words: Vec<OsString>) -> Result<Answer, Error> {
             Ok(Answer {
                 text: show::facts(&done),
                 code: show::stop_code(stop),
+                end: done.end,
             })
         }
     }
 }
 
-/// A reader that went away early (`| head`) is no error.
+/// A reader that went away early (`| head`) is no error, but nothing was told.
 fn print(answer: Answer) -> Result<u8, Error> {
     let mut out = std::io::stdout().lock();
-    match out.write_all(answer.text.as_bytes()).and(out.flush()) {
+    let done = out.write_all(answer.text.as_bytes());
+    match done.and_then(|()| out.flush()) {
         Err(why) if why.kind() != ErrorKind::BrokenPipe => {
-            Err(Error::file("standard output".as_ref(), why))
+            let why = format!("{why}; what was asked for is done");
+            return Err(Error::of(Kind::Output, "standard output".as_ref(), why));
         }
-        _ => Ok(answer.code),
+        Err(_) => {}
+        Ok(()) => answer.end.iter().for_each(End::was_told),
     }
+    Ok(answer.code)
 }

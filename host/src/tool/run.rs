@@ -1,75 +1,39 @@
 //! `phuyurik run`: a recipe on a part, in pieces, with a saved moment after each.
-use super::args::Order;
+use super::args::{Mode, Order};
+use super::end::End;
 use super::error::Error;
-use super::files;
-use super::journal::{self, ImageMark, Locks, Memory, Moment};
-use super::sealed::digest;
-use phuyurik::{
-    Argument, Board, Refusal, Row, Slots, State, Stop, Word, LONGEST_MEMORY, RECORD, ROW,
-};
+use super::files::{self, Lock};
+use super::going::{Burnt, Going};
+use super::image::{self, Image};
+use super::journal::{self, ImageMark, Memory, Moment, MOST_SLOTS};
+use super::known::{self, RowKnown, Seen};
+use super::place::{self, Place};
+use super::row_file;
+use super::settling::Locks;
+use super::slot::{Owner, Part, Slot};
+use super::view::View;
+use super::watch::Watch;
+use super::ways::typed;
+use phuyurik::{Argument, Board, Refusal, Row, Slots, State, Stop, RECORD};
 use std::collections::BTreeSet;
-use std::io::{IsTerminal, Write};
 use std::path::{Path, PathBuf};
-
-/// A slots file that is made anew has at most this many: a slip in a number should not fill a disk.
-const MOST_NEW_SLOTS: usize = 4096;
 
 /// What a run has to tell at its end.
 pub struct Outcome {
     pub retired: u64,
     pub state: State,
-    /// The words burnt in this run, with their values.
-    pub burnt: Vec<(usize, u32)>,
-}
-
-/// Who is told of a run while it goes on.
-pub trait Watch {
-    fn note(&mut self, text: &str);
-    fn progress(&mut self, retired: u64, budget: u64, burnt: usize);
-    fn end(&mut self);
-}
-
-/// Notes go to standard error; progress too, if it is a terminal.
-pub struct Terminal {
-    is_terminal: bool,
-}
-
-impl Terminal {
-    pub fn new() -> Terminal {
-        Terminal {
-            is_terminal: std::io::stderr().is_terminal(),
-        }
-    }
-
-    fn put(&self, text: &str) {
-        if self.is_terminal {
-            let mut err = std::io::stderr();
-            // Progress that cannot be shown is no reason to end a run.
-            let _ = write!(err, "\r\x1b[K{text}").and_then(|()| err.flush());
-        }
-    }
-}
-
-impl Watch for Terminal {
-    fn note(&mut self, text: &str) {
-        eprintln!("phuyurik: note: {text}");
-    }
-
-    fn progress(&mut self, retired: u64, budget: u64, burnt: usize) {
-        self.put(&format!(
-            "{retired} of {budget} retired, {burnt} words burnt, saved"
-        ));
-    }
-
-    fn end(&mut self) {
-        self.put("");
-    }
+    /// The words burnt since the recipe's start, with their values.
+    pub burnt: Vec<Burnt>,
+    /// Nothing was changed: it was a dry run.
+    pub dry_run: bool,
+    /// The run's end, to be marked as told once it is.
+    pub end: Option<End>,
 }
 
 /// What was ordered, with the files' canonical names.
 struct Job<'a> {
     order: &'a Order,
-    image: Vec<u8>,
+    image: Image,
     row_path: PathBuf,
     slots_path: PathBuf,
 }
@@ -77,56 +41,86 @@ struct Job<'a> {
 pub fn run(order: &Order, watch: &mut dyn Watch) -> Result<Outcome, Error> {
     let job = Job {
         order,
-        // One byte more than a memory may have tells those that are too long.
-        image: files::read(&order.image, LONGEST_MEMORY + 1)?,
+        image: image::load(&order.image, order.memory)?,
         row_path: files::canonical(&order.row)?,
         slots_path: files::canonical(&order.slots)?,
     };
     job.names_are_distinct()?;
-    let mut locks = Locks::take(&job.row_path, &job.slots_path)?;
-    for moment in locks.settle_both()? {
-        watch.note(&format!(
-            "{}: a save that was cut short has been carried out",
-            moment.row_path.display()
-        ));
+    job.names_are_likely()?;
+    let mut locks = Locks::take(&job.row_path, &job.slots_path, order.slot, order.dry_run)?;
+    let (view, settled) = locks.settle_both()?;
+    for save in &settled {
+        watch.note(&settled_text(save, order.dry_run));
     }
-    let mut moment = match order.resume {
-        true => job.resumed()?,
-        false => job.started(watch)?,
-    };
-    let outcome = job.go(&mut moment, watch);
+    let mut going = job.begin(&view, watch)?;
+    let outcome = job.go(&mut going, watch);
     watch.end();
     outcome
 }
 
-impl Job<'_> {
-    fn slot(&self) -> usize {
-        self.order.slot
+fn settled_text(save: &Moment, dry_run: bool) -> String {
+    let row = save.run.row_path.display();
+    match dry_run {
+        true => format!("{row}: a save that was cut short would be carried out"),
+        false => format!("{row}: a save that was cut short has been carried out"),
     }
+}
 
-    fn slots_file_error(&self, why: &str) -> Error {
-        Error::File(
-            self.slots_path.clone(),
-            format!("slot {} {why}", self.slot()),
-        )
+impl Job<'_> {
+    fn slot(&self) -> Slot<'_> {
+        Slot {
+            slots_path: &self.slots_path,
+            k: self.order.slot,
+        }
     }
 
     /// No file that a run writes may be another one that it needs.
     fn names_are_distinct(&self) -> Result<(), Error> {
+        let slot = journal::slot_name(&self.slots_path, self.order.slot);
         let journal = journal::journal_of(&self.row_path);
-        let memory = journal::memory_of(&self.slots_path, self.slot());
+        let seen = known::seen_of(&self.row_path);
+        let memory = journal::memory_of(&self.slots_path, self.order.slot);
         let mut names = vec![files::canonical(&self.order.image)?];
-        for path in [&self.row_path, &self.slots_path, &journal, &memory] {
+        for path in [&self.row_path, &self.slots_path, &journal, &seen, &memory] {
             names.extend([path.clone(), files::tmp(path)]);
         }
-        for path in [&self.row_path, &self.slots_path] {
-            names.push(files::beside(path, ".lock"));
+        for path in [&self.row_path, &self.slots_path, &slot] {
+            names.push(files::lock_of(path));
         }
         match names.iter().collect::<BTreeSet<_>>().len() == names.len() {
             true => Ok(()),
             false => Err(Error::Usage(
                 "the image, the row and the slots must be files of their own".to_string(),
             )),
+        }
+    }
+
+    /// Looked at before any lock file is made: a mistyped name should leave nothing behind.
+    fn names_are_likely(&self) -> Result<(), Error> {
+        let slots = files::read_if_there(&self.slots_path, usize::MAX)?;
+        let slots = slots.unwrap_or_default().len() / RECORD;
+        let k = self.order.slot;
+        if k >= slots.max(MOST_SLOTS) {
+            let why = format!("--slot {k}: no slots file is made for more than {MOST_SLOTS}");
+            return Err(Error::Usage(why));
+        }
+        match files::read_if_there(&journal::journal_of(&self.row_path), 0)? {
+            Some(_) => Ok(()),
+            None => self.slot_is_likely(self.row(&View::default())?.is_none()),
+        }
+    }
+
+    /// An empty slot is where a run starts, perhaps beside one that was meant. A row at which a run
+    /// is at work is busy, which is told later.
+    fn slot_is_likely(&self, is_new: bool) -> Result<(), Error> {
+        let memory = journal::memory_of(&self.slots_path, self.order.slot);
+        match Lock::look(&self.row_path) {
+            Ok(_free) if memory.symlink_metadata().is_err() => {
+                let view = View::default();
+                self.slots(&view)?;
+                self.may_go(&view, true, is_new)
+            }
+            _ => Ok(()),
         }
     }
 
@@ -139,161 +133,229 @@ impl Job<'_> {
         Error::of_library(path, error)
     }
 
+    /// The row's bytes, or nothing if the part is new, which has to be said.
+    fn row(&self, view: &View) -> Result<Option<Vec<u8>>, Error> {
+        let row = view.row(&self.row_path)?;
+        match (&row, self.order.new) {
+            (None, false) => {
+                let why = "missing; the row of a new part is made with --new";
+                Err(Error::missing(&self.row_path, why))
+            }
+            (Some(_), true) => {
+                let row = self.row_path.display();
+                let why = format!("--new: {row} is there already; leave --new out");
+                Err(Error::Usage(why))
+            }
+            _ => Ok(row),
+        }
+    }
+
+    /// The slots' bytes, as they will be when this run's slot is there.
+    fn slots(&self, view: &View) -> Result<Vec<u8>, Error> {
+        let there = view.slots(&self.slots_path)?;
+        let with_memory = view.slots_with_memory(&self.slots_path)?;
+        if let (None, Some(k)) = (&there, with_memory.first()) {
+            let slots = self.slots_path.display();
+            let why = format!("missing, but slot {k} has a memory file (mend {slots})");
+            return Err(Error::missing(&self.slots_path, why));
+        }
+        let mut slots = there.unwrap_or_default();
+        let k = self.order.slot;
+        // One that is no multiple of a record is left as it is, for the library to refuse.
+        if slots.len() % RECORD == 0 && slots.len() / RECORD <= k {
+            slots.resize((k + 1) * RECORD, 0);
+        }
+        Ok(slots)
+    }
+
     /// The library's own answer on everything that it would be lent: a run of budget 0.
     fn checked(&self, row: &[u8], slots: &[u8]) -> Result<State, Error> {
-        let (mut memory, mut row) = (self.image.clone(), row.to_vec());
+        let (mut memory, mut row) = (self.image.memory.clone(), row.to_vec());
         let mut slots = Slots::new(slots.to_vec());
         Board::new(&mut memory, &mut row)
-            .run_slot(&mut slots, self.slot(), 0)
-            .and_then(|_| slots.read(self.slot()))
+            .run_slot(&mut slots, self.order.slot, 0)
+            .and_then(|_| slots.read(self.order.slot))
             .map_err(|error| self.failed(error))
     }
 
-    /// A moment of this job. Row and record have been checked, so their lengths are right.
-    fn moment(&self, row: &[u8], record: &[u8], memory: Vec<u8>) -> Moment {
-        Moment {
-            row_path: self.row_path.clone(),
-            slots_path: self.slots_path.clone(),
-            slot: self.slot(),
-            image: ImageMark::of(&self.image),
-            record: record.try_into().expect("a record of 144 bytes"),
-            row: Row::try_from(row).expect("a row of 512 bytes"),
-            memory,
+    /// All that is looked at before a run, and only then its first save.
+    fn begin(&self, view: &View, watch: &mut dyn Watch) -> Result<Going, Error> {
+        let row = self.row(view)?;
+        let is_new = row.is_none();
+        let bytes = row.unwrap_or_else(|| Row::default().as_ref().to_vec());
+        let slots = self.slots(view)?;
+        let state = self.checked(&bytes, &slots)?;
+        for path in [&self.row_path, &self.slots_path] {
+            if path.exists() {
+                files::open_in_place(path)?;
+            }
         }
-    }
-
-    /// A new start, saved before its first step so that a kill right after it can be resumed.
-    fn started(&self, watch: &mut dyn Watch) -> Result<Moment, Error> {
-        let old_slots = files::read_if_there(&self.slots_path, usize::MAX)?;
-        let slots = match &old_slots {
-            Some(slots) => slots.clone(),
-            None => self.new_slots()?,
+        let content = self.slot().content(view, &slots, &state)?;
+        let row = row_file::row_in(&self.row_path, &bytes)?;
+        let part = Part { row, is_new };
+        let owner = Owner {
+            row_path: &self.row_path,
+            part: &part,
+            image: ImageMark::of(&self.image.bytes),
+            memory: self.order.memory,
         };
-        let old_row = files::read_if_there(&self.row_path, ROW + 1)?;
-        if old_row.is_none() {
-            self.part_is_new(slots.len() / RECORD)?;
-        }
-        let row = old_row.clone().unwrap_or_else(|| vec![0; ROW]);
-        let state = self.checked(&row, &slots)?;
-        self.slot_may_be_replaced(&state)?;
-        if old_slots.is_none() {
-            files::carry_out(&files::replacing(&self.slots_path, slots))?;
-        }
-        let fresh = State::fresh().to_bytes();
-        let moment = self.moment(&row, &fresh, self.image.clone());
-        files::carry_out(&moment.saving()?)?;
-        if old_row.is_none() {
+        let saved = self.slot().to_resume(content, self.order.mode, &owner)?;
+        self.may_go(view, saved.is_none(), is_new)?;
+        let going = self.going(saved, part.row, view, watch)?;
+        if is_new {
             let row = self.row_path.display();
-            watch.note(&format!("{row} was not there: a new part, its row blank"));
+            watch.note(&format!("{row}: a new part, its row blank"));
         }
-        Ok(moment)
+        Ok(going)
     }
 
-    fn new_slots(&self) -> Result<Vec<u8>, Error> {
-        if Memory::read(&self.slots_path, self.slot())?.is_some() {
-            return Err(self.slots_file_error("has a memory file, but the slots are missing"));
-        }
-        match self.slot() {
-            k if k < MOST_NEW_SLOTS => Ok(vec![0; (k + 1) * RECORD]),
-            _ => Err(self.slots_file_error("is too many for a new slots file")),
-        }
-    }
-
-    /// A row that is missing while a run on it is recorded is not a blank one: its burnt words
-    /// would be forgotten.
-    fn part_is_new(&self, slots: usize) -> Result<(), Error> {
-        for k in 0..slots {
-            let memory = Memory::read(&self.slots_path, k)?;
-            if memory.is_some_and(|memory| memory.row_path == self.row_path) {
-                let slots = self.slots_path.display();
-                let why = format!("the row is missing, but slot {k} of {slots} has a run on it");
-                return Err(Error::File(self.row_path.clone(), why));
+    /// A paused run waits for its own row, and for that as the run left it.
+    fn may_go(&self, view: &View, is_start: bool, is_new: bool) -> Result<(), Error> {
+        let paused = place::of_paused(view, &self.row_path, &self.slots_path)?;
+        let is_other =
+            |place: &&Place| place.slot != self.order.slot || place.slots_path != self.slots_path;
+        let other = paused.iter().find(is_other);
+        match (paused.first(), other) {
+            (Some(place), _) if is_new && !self.order.accept_row => Err(self.awaited(place)),
+            (_, Some(other)) if is_start && self.order.mode == Mode::Either => {
+                Err(self.paused_elsewhere(other))
             }
-        }
-        Ok(())
-    }
-
-    /// A paused run is given up for a new start on its own row only.
-    fn slot_may_be_replaced(&self, state: &State) -> Result<(), Error> {
-        let is_paused = state.stop() == Ok(Stop::Paused);
-        match Memory::read(&self.slots_path, self.slot())? {
-            Some(memory) if is_paused && memory.row_path != self.row_path => {
-                let row = memory.row_path.display();
-                Err(self.slots_file_error(&format!(
-                    "holds a paused run on {row}: choose another slot, or resume that run first"
-                )))
-            }
-            None if is_paused && *state != State::fresh() => Err(self.slots_file_error(
-                "holds a paused run, but its memory file is missing: choose another slot",
-            )),
             _ => Ok(()),
         }
     }
 
-    /// The moment that was saved last, if it is one of this row and this image.
-    fn resumed(&self) -> Result<Moment, Error> {
-        let row = files::read(&self.row_path, ROW + 1)?;
-        let slots = files::read(&self.slots_path, usize::MAX)?;
-        self.checked(&row, &slots)?;
-        let path = journal::memory_of(&self.slots_path, self.slot());
-        let Some(memory) = Memory::read(&self.slots_path, self.slot())? else {
-            return Err(Error::file(&path, "missing, there is no run to resume"));
-        };
-        if memory.row_path != self.row_path {
-            let of = memory.row_path.display();
-            return Err(Error::file(&path, format!("of a run on another row: {of}")));
-        }
-        if memory.image != ImageMark::of(&self.image) {
-            return Err(Error::file(&path, "of a run of another image"));
-        }
-        let record = &slots[self.slot() * RECORD..][..RECORD];
-        if memory.record != digest(record) {
-            return Err(self.slots_file_error("is not the record that was saved with its memory"));
-        }
-        Ok(self.moment(&row, record, memory.bytes))
+    fn awaited(&self, place: &Place) -> Error {
+        let (k, slots) = (place.slot, place.slots_path.display());
+        let why = format!(
+            "missing, and slot {k} of {slots} has a paused run on it: bring the row back; for a new \
+             part in its place say --accept-row"
+        );
+        Error::other_run(&self.row_path, why)
     }
 
-    fn go(&self, moment: &mut Moment, watch: &mut dyn Watch) -> Result<Outcome, Error> {
-        let before = moment.row.clone();
-        let mut retired = 0;
-        let mut state = self.state(moment)?;
-        while state.stop() == Ok(Stop::Paused) && retired < self.order.budget {
-            let piece = self.order.piece.min(self.order.budget - retired);
-            retired += Board::new(&mut moment.memory, &mut moment.row)
-                .run_slot(&mut Slots::new(&mut moment.record), 0, piece)
-                .map_err(|error| self.failed(error))?;
-            files::carry_out(&moment.saving()?)?;
-            state = self.state(moment)?;
-            let burnt = newly_burnt(&before, &moment.row).len();
-            watch.progress(retired, self.order.budget, burnt);
+    /// Most likely the slot or the slots file was mistyped. A start would burn the words of the paused
+    /// run, which could then never come to its proper end.
+    fn paused_elsewhere(&self, place: &Place) -> Error {
+        let (k, slots) = (place.slot, place.slots_path.display());
+        let command = typed::run(&self.row_path, &place.slots_path, k);
+        let why = format!(
+            "a run on it is paused in slot {k} of {slots}, and can be carried on there ({command}); \
+             --restart starts anew all the same"
+        );
+        Error::other_run(&self.row_path, why)
+    }
+
+    fn fresh(&self, row: &Row) -> Memory {
+        Memory {
+            row_path: self.row_path.clone(),
+            serial: 0,
+            image: ImageMark::of(&self.image.bytes),
+            record: State::fresh().to_bytes(),
+            row: row.clone(),
+            burnt: 0,
+            told: false,
+            bytes: self.image.memory.clone(),
+        }
+    }
+
+    /// A new start, or the run that the slot holds, on the row as it is. A new start is saved before
+    /// its first step, so that it can be resumed if it is killed right after it.
+    fn going(
+        &self,
+        saved: Option<Memory>,
+        row: Row,
+        view: &View,
+        watch: &mut dyn Watch,
+    ) -> Result<Going, Error> {
+        let accept = self.order.accept_row;
+        let mut known = RowKnown::read(view, &self.row_path, &self.slots_path, accept)?;
+        if let Some(saved) = &saved {
+            known.known.add(&saved.row);
+        }
+        let accepted = self.agree(&mut known, &row, watch)?;
+        if let Some(saved) = &saved {
+            self.tell_of(saved, watch);
+        }
+        let memory = saved.as_ref().map(|saved| saved.serial);
+        let mut run = saved.unwrap_or_else(|| self.fresh(&row));
+        run.burnt &= known::mask_of_same(&run.row, &row);
+        run.row = row;
+        let moment = Moment {
+            slots_path: self.slots_path.clone(),
+            slot: self.order.slot,
+            last_paused: known.last_paused.clone(),
+            run,
+        };
+        let mut going = Going::new(moment, &known, memory, self.order.dry_run);
+        if memory.is_none() || accepted {
+            going.save()?;
+        }
+        Ok(going)
+    }
+
+    /// Whoever resumes by name knows that he does.
+    fn tell_of(&self, run: &Memory, watch: &mut dyn Watch) {
+        let k = self.order.slot;
+        match (self.order.mode, run.state()) {
+            (Mode::Either, Ok(state)) if run.is_paused() => {
+                let count = state.count;
+                watch.note(&format!("carrying on the run in slot {k}, count {count}"));
+            }
+            (Mode::Either, _) => watch.note(&format!(
+                "the run in slot {k} had ended, and its end was not told"
+            )),
+            _ => {}
+        }
+    }
+
+    /// Compares the row with what is known of it. Where it is accepted as another one, what was seen
+    /// of it is from now on what it has; gives whether it was.
+    fn agree(&self, known: &mut RowKnown, row: &Row, watch: &mut dyn Watch) -> Result<bool, Error> {
+        let lost = known.known.lost_in(row);
+        if !self.order.accept_row {
+            known.known.is_held_by(&self.row_path, row)?;
+        }
+        for note in &known.notes {
+            watch.note(note);
+        }
+        if lost.is_empty() && !known.seen_is_damaged {
+            return Ok(false);
+        }
+        if !lost.is_empty() {
+            let (path, words) = (self.row_path.display(), known::text(&lost));
+            watch.note(&format!(
+                "{path}: accepted as it is; known otherwise: {words}"
+            ));
+        }
+        known.serial += 1;
+        known.seen = known.serial;
+        let seen = Seen {
+            serial: known.serial,
+            row: row.clone(),
+            last_paused: known.last_paused.clone(),
+        };
+        if !self.order.dry_run {
+            files::carry_out(&seen.writing(&self.row_path))?;
+        }
+        Ok(true)
+    }
+
+    fn go(&self, going: &mut Going, watch: &mut dyn Watch) -> Result<Outcome, Error> {
+        let (budget, mut retired) = (self.order.budget, 0);
+        let mut state = going.state().map_err(|error| self.failed(error))?;
+        while state.stop() == Ok(Stop::Paused) && retired < budget {
+            let piece = self.order.piece.min(budget - retired);
+            retired += going.piece(piece).map_err(|error| self.failed(error))?;
+            going.save()?;
+            state = going.state().map_err(|error| self.failed(error))?;
+            watch.progress(retired, budget, going.burnt.count_ones() as usize);
         }
         Ok(Outcome {
             retired,
             state,
-            burnt: newly_burnt(&before, &moment.row),
+            burnt: going.words(),
+            dry_run: self.order.dry_run,
+            end: going.end(),
         })
     }
-
-    fn state(&self, moment: &Moment) -> Result<State, Error> {
-        let slots = Slots::new(&moment.record);
-        slots.read(0).map_err(|error| self.failed(error))
-    }
-}
-
-/// The burnt words of a row, as index and value.
-pub fn burnt_words(row: &Row) -> Vec<(usize, u32)> {
-    let words = row.words().enumerate();
-    words
-        .filter_map(|(index, word)| match word {
-            Word::Burnt(value) => Some((index, value)),
-            Word::Blank => None,
-        })
-        .collect()
-}
-
-fn newly_burnt(before: &Row, after: &Row) -> Vec<(usize, u32)> {
-    let old = burnt_words(before);
-    let mut words = burnt_words(after);
-    words.retain(|word| !old.contains(word));
-    words
 }

@@ -1,10 +1,15 @@
 //! Runs that no command line can come to in a test's time.
-use super::args::Order;
+use super::args::{Mode, Order};
 use super::files::{self, Action};
-use super::journal::{ImageMark, Moment};
-use super::run::{run, Watch};
+use super::journal::{journal_of, memory_of, ImageMark, Memory, Moment};
+use super::known::seen_of;
+use super::run::run;
 use super::show::stop_code;
+use super::watch::Watch;
 use phuyurik::{Row, State, Stop, RECORD};
+use std::collections::BTreeMap;
+use std::fs;
+use std::path::{Path, PathBuf};
 use testing::Folder;
 
 /// Keeps what it is told.
@@ -32,8 +37,12 @@ fn order(folder: &Folder, image: &[u8], budget: u64, piece: u64) -> Order {
         slots: folder.file("slots"),
         slot: 0,
         budget,
-        resume: false,
         piece,
+        memory: None,
+        mode: Mode::Either,
+        new: true,
+        accept_row: false,
+        dry_run: false,
     }
 }
 
@@ -45,16 +54,23 @@ fn saving(folder: &Folder, count: u64) -> Vec<Action> {
     let mut state = State::fresh();
     state.count = count;
     folder.write("slots", &[0; RECORD]);
-    let moment = Moment {
+    let run = Memory {
         row_path: folder.file("row"),
-        slots_path: folder.file("slots"),
-        slot: 0,
+        serial: 1,
         image: ImageMark::of(&ENDLESS),
         record: state.to_bytes(),
         row: Row::default(),
-        memory: ENDLESS.to_vec(),
+        burnt: 0,
+        told: false,
+        bytes: ENDLESS.to_vec(),
     };
-    moment.saving().expect("planned")
+    let moment = Moment {
+        slots_path: folder.file("slots"),
+        slot: 0,
+        last_paused: None,
+        run,
+    };
+    moment.saving()
 }
 
 #[test]
@@ -62,7 +78,8 @@ fn a_full_count_is_20() {
     let folder = Folder::new();
     files::carry_out(&saving(&folder, u64::MAX - 2)).expect("saved");
     let order = Order {
-        resume: true,
+        new: false,
+        mode: Mode::Resume,
         ..order(&folder, &ENDLESS, u64::MAX, u64::MAX)
     };
     let done = run(&order, &mut Told::default()).expect("not refused");
@@ -87,10 +104,72 @@ fn a_journal_left_behind_is_carried_out_and_told_of() {
     let folder = Folder::new();
     files::carry_out(&saving(&folder, 5)[..2]).expect("the journal alone");
     let mut told = Told::default();
-    let mut order = order(&folder, &ENDLESS, 1, 1);
-    order.resume = true;
+    let order = Order {
+        new: false,
+        mode: Mode::Resume,
+        ..order(&folder, &ENDLESS, 1, 1)
+    };
     let done = run(&order, &mut told).expect("carried out");
     assert_eq!(done.state.count, 6);
     assert_eq!(told.notes.len(), 1);
     assert!(told.notes[0].contains("cut short"));
+}
+
+/// Every file with its bytes.
+fn all_files(folder: &Folder) -> BTreeMap<PathBuf, Vec<u8>> {
+    let entries = fs::read_dir(folder.path()).expect("there");
+    let paths = entries.map(|entry| entry.expect("there").path());
+    paths
+        .map(|path| (path.clone(), fs::read(path).expect("read")))
+        .collect()
+}
+
+/// Whatever byte of the file is another, and wherever it ends: the run is not begun.
+fn every_damage_is_seen(folder: &Folder, order: &Order, path: &Path) {
+    let whole = fs::read(path).expect("there");
+    for at in 0..whole.len() {
+        let mut flipped = whole.clone();
+        flipped[at] ^= 1 << (at % 8);
+        for bytes in [&flipped[..], &whole[..at]] {
+            fs::write(path, bytes).expect("written");
+            let before = all_files(folder);
+            let Err(error) = run(order, &mut Told::default()) else {
+                panic!("{}, byte {at}: not seen", path.display());
+            };
+            assert_eq!(error.exit_code(), 5, "byte {at}: {error}");
+            assert_eq!(all_files(folder), before);
+        }
+    }
+    fs::write(path, whole).expect("written");
+}
+
+#[test]
+fn every_flip_and_every_cut_of_the_tools_own_files_is_5_and_changes_nothing() {
+    let folder = Folder::new();
+    let first = order(&folder, &ENDLESS, 10, 4);
+    run(&first, &mut Told::default()).expect("not refused");
+    let (row, slots) = (folder.file("row"), folder.file("slots"));
+    let files = [memory_of(&slots, 0), seen_of(&row), journal_of(&row)];
+    let next = Order {
+        new: false,
+        ..first
+    };
+    for path in &files[..2] {
+        every_damage_is_seen(&folder, &next, path);
+    }
+    // With a save that was cut short the journal is read, too, and before it is carried out the rest.
+    let mut saved = Memory::read(&slots, 0).expect("whole").expect("there");
+    saved.serial += 1;
+    let moment = Moment {
+        slots_path: slots,
+        slot: 0,
+        last_paused: None,
+        run: saved,
+    };
+    fs::write(journal_of(&row), moment.to_journal()).expect("written");
+    for path in &files {
+        every_damage_is_seen(&folder, &next, path);
+    }
+    let done = run(&next, &mut Told::default()).expect("whole again");
+    assert_eq!(done.state.count, 20);
 }

@@ -20,13 +20,31 @@ pub fn seal(kind: &[u8; 8], fields: &[&[u8]]) -> Vec<u8> {
     bytes
 }
 
-/// The fields, or nothing if the bytes are not exactly what `seal` makes of this kind and number.
-pub fn unseal<'a, const N: usize>(kind: &[u8; 8], bytes: &'a [u8]) -> Option<[&'a [u8]; N]> {
-    let (body, mark) = bytes.split_last_chunk::<8>()?;
+/// Why bytes are not what `seal` makes of a kind.
+#[derive(Clone, Copy, Debug, PartialEq, Eq)]
+pub enum Broken {
+    Damaged,
+    /// Whole, and of the kind, but with another version: the kind's last byte.
+    Version,
+}
+
+/// The fields, if the bytes are exactly what `seal` makes of this kind and number.
+pub fn unseal<'a, const N: usize>(
+    kind: &[u8; 8],
+    bytes: &'a [u8],
+) -> Result<[&'a [u8]; N], Broken> {
+    let (body, mark) = bytes.split_last_chunk::<8>().ok_or(Broken::Damaged)?;
     if digest(body) != u64::from_le_bytes(*mark) {
-        return None;
+        return Err(Broken::Damaged);
     }
-    let mut rest = body.strip_prefix(kind)?;
+    match body.strip_prefix(kind) {
+        Some(rest) => fields(rest).ok_or(Broken::Damaged),
+        None if body.len() >= 8 && body.starts_with(&kind[..7]) => Err(Broken::Version),
+        None => Err(Broken::Damaged),
+    }
+}
+
+fn fields<const N: usize>(mut rest: &[u8]) -> Option<[&[u8]; N]> {
     let mut fields = [&[][..]; N];
     for field in &mut fields {
         let (length, after) = rest.split_first_chunk::<4>()?;
@@ -53,20 +71,24 @@ mod tests {
         let bytes = seal(b"testing1", &[b"one", b"", b"three"]);
         let fields: [&[u8]; 3] = unseal(b"testing1", &bytes).expect("sealed");
         assert_eq!(fields, [&b"one"[..], b"", b"three"]);
-        assert!(unseal::<3>(b"testing2", &bytes).is_none());
-        assert!(unseal::<2>(b"testing1", &bytes).is_none());
-        assert!(unseal::<4>(b"testing1", &bytes).is_none());
+        let broken = |kind| unseal::<3>(kind, &bytes).expect_err("of another kind");
+        assert_eq!(broken(b"testing2"), Broken::Version);
+        assert_eq!(broken(b"tasting1"), Broken::Damaged);
+        assert_eq!(unseal::<2>(b"testing1", &bytes), Err(Broken::Damaged));
+        assert_eq!(unseal::<4>(b"testing1", &bytes), Err(Broken::Damaged));
     }
 
     #[test]
     fn every_flip_and_every_cut_is_seen() {
         let bytes = seal(b"testing1", &[b"one", b"two"]);
         for at in 0..bytes.len() {
-            assert!(unseal::<2>(b"testing1", &bytes[..at]).is_none());
+            let cut = unseal::<2>(b"testing1", &bytes[..at]);
+            assert_eq!(cut, Err(Broken::Damaged));
             for bit in 0..8 {
                 let mut other = bytes.clone();
                 other[at] ^= 1 << bit;
-                assert!(unseal::<2>(b"testing1", &other).is_none());
+                let flipped = unseal::<2>(b"testing1", &other);
+                assert_eq!(flipped, Err(Broken::Damaged));
             }
         }
     }

@@ -1,42 +1,66 @@
 //! What people read: the listing, a row, a slot, the facts of a run.
 use super::error::Error;
 use super::files;
-use super::journal;
-use super::run::{burnt_words, Outcome};
-use phuyurik::{Board, Row, Slots, State, Stop, LONGEST_MEMORY, ROW};
+use super::going::Burnt;
+use super::image;
+use super::journal::{self, Moment};
+use super::known::burnt_words;
+use super::row_file;
+use super::run::Outcome;
+use super::settling;
+use super::view::View;
+use super::watch;
+use phuyurik::{Row, Slots, State, Stop};
 use std::fmt::Write;
-use std::path::Path;
+use std::path::{Path, PathBuf};
 
 const WINDOW: u32 = 0x8000_0000;
 
 pub fn list(path: &Path) -> Result<String, Error> {
-    let image = files::read(path, LONGEST_MEMORY + 1)?;
-    phuyurik::listing(&image).map_err(|error| Error::of_library(path, error))
+    let image = image::load(path, None)?;
+    phuyurik::listing(&image.bytes).map_err(|error| Error::of_library(path, error))
 }
 
-fn both(value: u32) -> String {
+pub fn both(value: u32) -> String {
     format!("{value} (0x{value:08x})")
 }
 
 pub fn row(path: &Path) -> Result<String, Error> {
-    let mut bytes = files::read(path, ROW + 1)?;
-    // Whether it is a row is the library's to say: a run of budget 0.
-    let row = Board::new(&mut [], &mut bytes)
-        .run(&mut State::fresh(), 0)
-        .and_then(|_| Ok(Row::try_from(&bytes[..])?))
-        .map_err(|error| Error::of_library(path, error))?;
     let path = files::canonical(path)?;
-    if journal::journal_of(&path).exists() {
-        say_unsettled(&path);
+    let view = with_pending([path.clone()], |_| true);
+    match view.row(&path)? {
+        Some(bytes) => Ok(row_text(&row_file::row_in(&path, &bytes)?)),
+        None => Err(Error::missing(&path, "missing")),
     }
-    Ok(row_text(&row))
 }
 
-fn say_unsettled(row: &Path) {
-    eprintln!(
-        "phuyurik: note: {}: a save is under way or was cut short; shown is what the file holds",
-        row.display()
-    );
+/// The files as the next run will find them once it has settled what is pending beside these rows.
+/// Where it would not, they are as they stand.
+fn with_pending(
+    rows: impl IntoIterator<Item = PathBuf>,
+    is_wanted: impl Fn(&Moment) -> bool,
+) -> View {
+    let mut view = View::default();
+    for row in rows {
+        let pending = journal::pending(&row).map(|found| found.filter(&is_wanted));
+        match pending.and_then(|found| found.map(|save| may_be_seen(save, &view)).transpose()) {
+            Ok(Some(save)) => {
+                let row = row.display();
+                watch::note(&format!(
+                    "{row}: a save is under way or was cut short; shown as it will be when that is \
+                     carried out"
+                ));
+                view.add(save);
+            }
+            Ok(None) => {}
+            Err(why) => watch::note(&format!("{why}; shown is what the file holds")),
+        }
+    }
+    view
+}
+
+fn may_be_seen(save: Moment, view: &View) -> Result<Moment, Error> {
+    save.may_be_settled(view).map(|_| save)
 }
 
 pub fn row_text(row: &Row) -> String {
@@ -52,16 +76,17 @@ pub fn row_text(row: &Row) -> String {
 }
 
 pub fn slot(path: &Path, k: usize) -> Result<String, Error> {
-    let slots = Slots::new(files::read(path, usize::MAX)?);
-    let state = slots
-        .read(k)
-        .map_err(|error| Error::of_library(path, error))?;
     let path = files::canonical(path)?;
-    let remark = files::read_if_there(&files::beside(&path, ".lock"), usize::MAX)?;
-    let last = journal::path_from(&remark.unwrap_or_default());
-    if last.is_absolute() && journal::journal_of(&last).exists() {
-        say_unsettled(&last);
-    }
+    let lock = files::lock_of(&journal::slot_name(&path, k));
+    let remark = files::read_if_there(&lock, usize::MAX)?.unwrap_or_default();
+    let rows = settling::last_row(&remark, &path, k);
+    let view = with_pending(rows, |save| save.slots_path == path && save.slot == k);
+    let Some(bytes) = view.slots(&path)? else {
+        return Err(Error::missing(&path, "missing"));
+    };
+    let state = Slots::new(bytes)
+        .read(k)
+        .map_err(|error| Error::of_library(&path, error))?;
     Ok(slot_text(&state))
 }
 
@@ -76,7 +101,7 @@ pub fn slot_text(state: &State) -> String {
 }
 
 /// The stop of a state, in words; the library gives none that has no name.
-fn stop_line(state: &State) -> String {
+pub fn stop_line(state: &State) -> String {
     match state.stop() {
         Ok(stop) => stop_text(stop),
         Err(unknown) => format!("stop {}: {unknown}", unknown.number()),
@@ -87,11 +112,19 @@ pub fn stop_text(stop: Stop) -> String {
     format!("stop {}: {stop}", stop.number())
 }
 
-/// 0 for ecall and for a pause, which was asked for by the budget.
+/// 0 for ecall: the recipe is done. A pause has a code of its own, for the loop that carries on.
 pub fn stop_code(stop: Stop) -> u8 {
     match stop {
-        Stop::Paused | Stop::Ecall => 0,
+        Stop::Ecall => 0,
         _ => 10 + stop.number(),
+    }
+}
+
+pub fn words(number: usize) -> String {
+    match number {
+        0 => "no word".to_string(),
+        1 => "1 word".to_string(),
+        many => format!("{many} words"),
     }
 }
 
@@ -101,13 +134,37 @@ pub fn facts(done: &Outcome) -> String {
     text += &format!("count {}\n", state.count);
     text += &format!("{}\n", stop_line(state));
     text += &format!("pc {}\n", both(state.pc));
-    text += &match done.burnt.len() {
-        0 => "no word burnt in this run\n".to_string(),
-        1 => "1 word burnt in this run\n".to_string(),
-        many => format!("{many} words burnt in this run\n"),
-    };
-    for (index, value) in &done.burnt {
-        text += &format!("word {index} burnt with {}\n", both(*value));
+    text + &match done.dry_run {
+        true => would_be_burnt(&done.burnt),
+        false => burnt(&done.burnt),
+    }
+}
+
+fn burnt(all: &[Burnt]) -> String {
+    let new = all.iter().filter(|word| word.in_this_run).count();
+    let mut text = format!("{} burnt since the recipe's start", words(all.len()));
+    if !all.is_empty() {
+        text += &format!(", {new} of them in this run");
+    }
+    text += "\n";
+    for word in all {
+        let when = if word.in_this_run { " in this run" } else { "" };
+        let (index, value) = (word.index, both(word.value));
+        text += &format!("word {index} burnt with {value}{when}\n");
     }
     text
+}
+
+fn would_be_burnt(all: &[Burnt]) -> String {
+    let (new, old): (Vec<Burnt>, Vec<Burnt>) = all.iter().partition(|word| word.in_this_run);
+    let mut text = format!("{} burnt since the recipe's start\n", words(old.len()));
+    for word in &old {
+        text += &format!("word {} burnt with {}\n", word.index, both(word.value));
+    }
+    text += &format!("{} would be burnt in this run\n", words(new.len()));
+    for word in &new {
+        let (index, value) = (word.index, both(word.value));
+        text += &format!("word {index} would be burnt with {value}\n");
+    }
+    text + "dry run: no file was changed\n"
 }
