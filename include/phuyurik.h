@@ -41,7 +41,7 @@ extern "C" {
  */
 
 #define PHUYURIK_VERSION_MAJOR 0
-#define PHUYURIK_VERSION_MINOR 2
+#define PHUYURIK_VERSION_MINOR 3
 #define PHUYURIK_VERSION_PATCH 0
 #define PHUYURIK_VERSION                                                                                \
     (PHUYURIK_VERSION_MAJOR * 65536u + PHUYURIK_VERSION_MINOR * 256u + PHUYURIK_VERSION_PATCH)
@@ -65,7 +65,8 @@ typedef enum phuyurik_refusal {
     PHUYURIK_ROW_LENGTH = 2,      /* row not 512 bytes */
     PHUYURIK_ROW_RECORD = 3,      /* a row record breaks its rules */
     PHUYURIK_SLOT = 4,            /* slot buffer not a multiple of 144, or no such slot */
-    PHUYURIK_STATE = 5,           /* state malformed, or, on reading, bytes 137-143 not zero */
+    PHUYURIK_STATE = 5,           /* state malformed, or, on reading, its record's bytes 137-139
+                                   * not zero */
     PHUYURIK_ROOM = 6,            /* text room under 24 bytes */
     PHUYURIK_NO_INSTRUCTION = 7,  /* no legal instruction in the given bits */
     PHUYURIK_FIELD = 8,           /* a field out of range, or an odd branch or jal offset */
@@ -80,7 +81,7 @@ static inline const char *phuyurik_refusal_text(unsigned number) {
         "row not 512 bytes",
         "a row record breaks its rules",
         "slot buffer not a multiple of 144, or no such slot",
-        "state malformed, or, on reading, its record's bytes 137-143 not zero",
+        "state malformed, or, on reading, its record's bytes 137-139 not zero",
         "text room under 24 bytes",
         "no legal instruction in the given bits",
         "instruction with a field out of range, or an odd branch or jal offset",
@@ -116,6 +117,20 @@ static inline const char *phuyurik_stop_text(unsigned number) {
         "count full",
     };
     return number < sizeof texts / sizeof *texts ? texts[number] : "no stop has this number";
+}
+
+/* Whether a stop has an address, which a state carries with it: 3 to 9 have one, and no other number. */
+static inline int phuyurik_stop_has_address(unsigned number) {
+    switch (number) {
+    case PHUYURIK_ILLEGAL:
+    case PHUYURIK_FETCH_OUTSIDE:
+    case PHUYURIK_LOAD_MISALIGNED:
+    case PHUYURIK_LOAD_OUTSIDE:
+    case PHUYURIK_STORE_MISALIGNED:
+    case PHUYURIK_STORE_OUTSIDE:
+    case PHUYURIK_ALREADY_BURNT: return 1;
+    default: return 0;
+    }
 }
 
 /* ---- instructions
@@ -233,25 +248,39 @@ phuyurik_refusal phuyurik_list(const uint8_t *image, size_t image_size, size_t f
 
 /* ---- states
  *
- * A state is pc, x1 to x31, the retired count and a stop number. Its bytes in memory are those of its
- * record in a slot (copy them, or use phuyurik_read_slot: a pointer into slots is no pointer to a
- * state). The fresh state is all zero: `phuyurik_state state = {0};` in C, `{}` in C++. A state with an
- * odd pc, a stop number above 10 or a `zero` that is not zero is malformed. Programs do not name
- * `zero`: a later version gives its last four bytes a meaning. */
+ * A state is pc, x1 to x31, the retired count, a stop number and the address that belongs to the stop.
+ * Its bytes in memory are those of its record in a slot (copy them, or use phuyurik_read_slot: a
+ * pointer into slots is no pointer to a state). The fresh state is all zero: `phuyurik_state state =
+ * {0};` in C, `{}` in C++.
+ *
+ * A step that stops sets the stop number and the address:
+ *
+ *     stop            address
+ *     3               pc
+ *     4               of the halfword that could not be fetched: pc, or pc + 2 where the first was
+ *                     within memory
+ *     5, 6, 7, 8, 9   the address accessed: register plus immediate, modulo 2^32
+ *     0, 1, 2, 10     0
+ *
+ * A state is malformed with an odd pc, a stop number above 10, a `zero` that is not zero, or an
+ * address that is not 0 where the stop is 0, 1, 2 or 10. With another stop any address is accepted: a
+ * record that was written before there were addresses has 0 there. Programs do not name `zero`. */
 
 typedef struct phuyurik_state {
     uint32_t pc;
     uint32_t x[31]; /* x[0] is x1: phuyurik_reg reads by number */
     uint64_t count;
     uint8_t stop; /* a phuyurik_stop */
-    uint8_t zero[7];
+    uint8_t zero[3];
+    uint32_t address; /* where it stopped, if phuyurik_stop_has_address(stop) */
 } phuyurik_state;
 
 PHUYURIK_ASSERT(sizeof(phuyurik_state) == PHUYURIK_RECORD_SIZE, "a state is its record");
 PHUYURIK_ASSERT(offsetof(phuyurik_state, x) == 4, "x1 stands at byte 4");
 PHUYURIK_ASSERT(offsetof(phuyurik_state, count) == 128, "the count stands at byte 128");
 PHUYURIK_ASSERT(offsetof(phuyurik_state, stop) == 136, "the stop number stands at byte 136");
-PHUYURIK_ASSERT(offsetof(phuyurik_state, zero) == 137, "the rest stands at byte 137");
+PHUYURIK_ASSERT(offsetof(phuyurik_state, zero) == 137, "the zeros stand at byte 137");
+PHUYURIK_ASSERT(offsetof(phuyurik_state, address) == 140, "the address stands at byte 140");
 PHUYURIK_ASSERT(sizeof(phuyurik_inst) == 20, "an instruction is five numbers in a row");
 
 /* Register n, 0 to 31, of a state; x0 is 0. Of a number above 31 it is 0, too. */
@@ -260,11 +289,12 @@ static inline uint32_t phuyurik_reg(const phuyurik_state *state, unsigned n) {
 }
 
 /* Gives a state this stop, also to let one go on that has stopped (PHUYURIK_PAUSED). Programs set a
- * stop so and not by the field: what belongs to the old stop goes with it. */
+ * stop so and not by the field: what belongs to the old stop, its address, goes with it. */
 static inline void phuyurik_set_stop(phuyurik_state *state, phuyurik_stop stop) {
     size_t i;
     state->stop = (uint8_t)stop;
     for (i = 0; i < sizeof state->zero; i++) state->zero[i] = 0;
+    state->address = 0;
 }
 
 /* ---- rows
@@ -300,7 +330,8 @@ phuyurik_refusal phuyurik_run(phuyurik_state *state, uint8_t *mem, size_t mem_si
 /* ---- slots
  *
  * slots is a buffer of records, one after the other, with no header: bytes 0-3 pc, 4-127 x1 to x31,
- * 128-135 the retired count, 136 the stop number, 137-143 zero, all little-endian. k counts from 0. */
+ * 128-135 the retired count, 136 the stop number, 137-139 zero, 140-143 the stop's address, all
+ * little-endian. k counts from 0. */
 
 /* A state into slot k; no other byte changes. Refuses with 4, 5. */
 phuyurik_refusal phuyurik_write_slot(const phuyurik_state *state, uint8_t *slots, size_t slots_size,

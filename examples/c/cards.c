@@ -1,5 +1,6 @@
 /* Through the C interface: the paper's cards 1, 3, 7, 10, 11 (also with a budget of 3) and 12, the
- * recipe in pieces through a slot, its listing, and two refusals. Valid C11 and C++17. */
+ * recipe in pieces through a slot, its listing, the addresses of stops, and three refusals. Valid C11
+ * and C++17. */
 #include <phuyurik.h>
 
 #include <stdio.h>
@@ -20,9 +21,16 @@ static void start(struct bench *b) {
     memset(&b->state, 0, sizeof b->state);
 }
 
+/* A stop in words, and where it was, if it has an address. */
+static void show_stop(const phuyurik_state *state) {
+    printf("stop %u, %s", (unsigned)state->stop, phuyurik_stop_text(state->stop));
+    if (phuyurik_stop_has_address(state->stop)) printf(" at 0x%08x", (unsigned)state->address);
+}
+
 static void show(const char *name, uint64_t retired, const struct bench *b) {
-    printf("%s: %llu retired, stop %u, %s, pc %u, word 0 %s %u\n", name, (unsigned long long)retired,
-           (unsigned)b->state.stop, phuyurik_stop_text(b->state.stop), (unsigned)b->state.pc,
+    printf("%s: %llu retired, ", name, (unsigned long long)retired);
+    show_stop(&b->state);
+    printf(", pc %u, word 0 %s %u\n", (unsigned)b->state.pc,
            phuyurik_is_burnt(b->row, 0) ? "burnt with" : "blank with",
            (unsigned)phuyurik_word(b->row, 0));
 }
@@ -119,6 +127,66 @@ static void list(const uint8_t *image, size_t image_size) {
     }
 }
 
+/* A step of the instruction at 4, in so many bytes of memory. */
+static const struct {
+    uint32_t bits;
+    uint32_t x1;
+    size_t memory_size;
+} steps[] = {
+    {0x00000000, 0, 8},          /* no instruction */
+    {0x0000A183, 0, 4},          /* lw x3,0(x1), beyond memory */
+    {0x0000A183, 0, 6},          /* and with only its first halfword in memory */
+    {0x00009183, 7, 8},          /* lh x3,0(x1) */
+    {0xFF80A183, 4, 8},          /* lw x3,-8(x1) */
+    {0x00209023, 7, 8},          /* sh x2,0(x1) */
+    {0x0020A023, 0x80000100, 8}, /* sw x2,0(x1), behind the window */
+    {0x0020A023, 0x800000FC, 8}, /* and in it, where word 63 is burnt */
+    {0x00000073, 7, 8},          /* ecall */
+    {0x00100073, 7, 8},          /* ebreak */
+};
+
+static void show_stop(const struct bench *b) {
+    printf("%s: %s 0x%08x\n", phuyurik_stop_text(b->state.stop),
+           phuyurik_stop_has_address(b->state.stop) ? "address" : "no address,",
+           (unsigned)b->state.address);
+}
+
+/* Where each of them stops, on a row of which word 63 is burnt; and a full count. */
+static int addresses(struct bench *b) {
+    uint8_t memory[8] = {0};
+    size_t i, at;
+    memset(b->row, 0, sizeof b->row);
+    b->row[8 * 63 + 4] = 1;
+    for (i = 0; i < sizeof steps / sizeof *steps; i++) {
+        for (at = 0; at < 4; at++) memory[4 + at] = (uint8_t)(steps[i].bits >> (8 * at));
+        start(b);
+        b->state.pc = 4;
+        b->state.x[0] = steps[i].x1;
+        if (phuyurik_step(&b->state, memory, steps[i].memory_size, b->row, sizeof b->row)) return 1;
+        show_stop(b);
+    }
+    start(b);
+    b->state.count = UINT64_MAX;
+    if (phuyurik_step(&b->state, memory, sizeof memory, b->row, sizeof b->row)) return 1;
+    show_stop(b);
+    return 0;
+}
+
+/* A pause that has an address is malformed, until its stop is set anew. */
+static void address_of_a_pause(struct bench *b) {
+    uint64_t retired = 77;
+    phuyurik_refusal refusal, then;
+    start(b);
+    b->state.address = 4;
+    refusal = run(b, 1, &retired);
+    printf("refusal %u, %llu and %u still there\n", (unsigned)refusal, (unsigned long long)retired,
+           (unsigned)b->state.address);
+    printf("%u is: %s\n", (unsigned)refusal, phuyurik_refusal_text(refusal));
+    phuyurik_set_stop(&b->state, PHUYURIK_PAUSED);
+    then = run(b, 1, &retired);
+    printf("set anew: refusal %u, %llu retired\n", (unsigned)then, (unsigned long long)retired);
+}
+
 /* Refusals leave everything as it was: no slot 2, and a room of 23 bytes. */
 static void refusals(struct bench *b) {
     uint8_t slots[2 * PHUYURIK_RECORD_SIZE] = {0};
@@ -142,6 +210,8 @@ int main(void) {
     printf("card 1: %.*s\n", (int)length, (const char *)room);
     if (codes() || card_10(&b) || card_11(&b, 100) || card_12(&b) || card_11(&b, 3) || in_pieces(&b)) return 1;
     list(recipe, sizeof recipe);
+    if (addresses(&b)) return 1;
+    address_of_a_pause(&b);
     refusals(&b);
     return 0;
 }

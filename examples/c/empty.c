@@ -22,7 +22,9 @@ static void runs(void) {
     memset(&state, 0, sizeof state);
     expect("a step with no memory", phuyurik_step(&state, NULL, 0, row, sizeof row), 0);
     expect("its stop", state.stop, PHUYURIK_FETCH_OUTSIDE);
+    state.address = 2;
     phuyurik_set_stop(&state, PHUYURIK_PAUSED);
+    expect("the address after a stop was set", state.address, 0);
     expect("a step with no row", phuyurik_step(&state, NULL, 0, NULL, 0), PHUYURIK_ROW_LENGTH);
     expect("a run with no row", phuyurik_run(&state, NULL, 0, NULL, 0, 9, &retired), PHUYURIK_ROW_LENGTH);
     expect("a run of no slots", phuyurik_run_slot(NULL, 0, row, sizeof row, NULL, 0, 0, 9, &retired),

@@ -79,7 +79,7 @@ numbered! {
         RowLength = 2: "row not 512 bytes",
         RowRecord = 3: "a row record breaks its rules",
         Slot = 4: "slot buffer not a multiple of 144, or no such slot",
-        State = 5: "state malformed, or, on reading, its record's bytes 137-143 not zero",
+        State = 5: "state malformed, or, on reading, its record's bytes 137-139 not zero",
         Room = 6: "text room under 24 bytes",
         NoInstruction = 7: "no legal instruction in the given bits",
         Field = 8: "instruction with a field out of range, or an odd branch or jal offset",
@@ -168,6 +168,28 @@ impl Refusal {
     }
 }
 
+impl Stop {
+    /// Whether it has an address, which a state carries with it: [`State::address`](crate::State::address).
+    ///
+    /// ```
+    /// use phuyurik::Stop;
+    /// assert!(Stop::LoadOutside.has_address());
+    /// assert!(!Stop::Paused.has_address() && !Stop::Ecall.has_address());
+    /// ```
+    pub const fn has_address(self) -> bool {
+        match self {
+            Stop::Paused | Stop::Ecall | Stop::Ebreak | Stop::CountFull => false,
+            Stop::Illegal
+            | Stop::FetchOutside
+            | Stop::LoadMisaligned
+            | Stop::LoadOutside
+            | Stop::StoreMisaligned
+            | Stop::StoreOutside
+            | Stop::AlreadyBurnt => true,
+        }
+    }
+}
+
 impl fmt::Display for Refusal {
     fn fmt(&self, f: &mut fmt::Formatter) -> fmt::Result {
         write!(f, "refusal {}: {}", self.number(), self.words())
@@ -233,6 +255,12 @@ mod tests {
         assert!(stops.eq(0..=10));
         let operations = Operation::ALL.iter().map(|operation| operation.number());
         assert!(operations.eq(0..=47));
+    }
+
+    #[test]
+    fn stops_3_to_9_have_an_address() {
+        let with = Stop::ALL.iter().filter(|stop| stop.has_address());
+        assert!(with.map(|stop| stop.number()).eq(3..=9));
     }
 
     #[test]

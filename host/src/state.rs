@@ -3,9 +3,10 @@ use crate::{Stop, UnknownNumber, RECORD};
 use phuyurik_sys as sys;
 use std::mem::{align_of, offset_of, size_of};
 
-/// A state: pc, x1 to x31, the retired count and a stop number. Its bytes in memory are those of its
-/// record in a slot. Any numbers may stand here: a malformed state, one with an odd pc or a number
-/// that is no stop's, is refused by whatever would use it.
+/// A state: pc, x1 to x31, the retired count, a stop number and the address that belongs to the stop.
+/// Its bytes in memory are those of its record in a slot. Any numbers may stand here: a malformed
+/// state, one with an odd pc, a number that is no stop's or an address for a stop that has none, is
+/// refused by whatever would use it.
 ///
 /// ```
 /// use phuyurik::{State, Stop};
@@ -31,7 +32,8 @@ pub struct State {
     /// The steps retired so far.
     pub count: u64,
     stop_number: u8,
-    zero: [u8; 7],
+    zero: [u8; 3],
+    address: u32,
 }
 
 // The archive is lent a `State` as the C interface's own.
@@ -43,6 +45,7 @@ const _: () = {
     assert!(offset_of!(State, count) == offset_of!(sys::State, count));
     assert!(offset_of!(State, stop_number) == offset_of!(sys::State, stop));
     assert!(offset_of!(State, zero) == offset_of!(sys::State, zero));
+    assert!(offset_of!(State, address) == offset_of!(sys::State, address));
 };
 
 impl State {
@@ -57,7 +60,8 @@ impl State {
             x: [0; 31],
             count: 0,
             stop_number: 0,
-            zero: [0; 7],
+            zero: [0; 3],
+            address: 0,
         }
     }
 
@@ -76,16 +80,52 @@ impl State {
     }
 
     /// Gives the state this stop, also to let one go on that has stopped. What belongs to the old
-    /// stop goes with it.
+    /// stop, its address, goes with it.
     ///
     /// ```
     /// use phuyurik::{State, Stop};
     /// let mut state = State::fresh();
+    /// state.set_stop_at(Stop::LoadOutside, 0x1000);
     /// state.set_stop(Stop::Ebreak);
-    /// assert_eq!(state.stop_number(), 2);
+    /// assert_eq!((state.stop_number(), state.address()), (2, 0));
     /// ```
     pub fn set_stop(&mut self, stop: Stop) {
         self.set_stop_number(stop.number());
+    }
+
+    /// Gives the state this stop and its address, as a step that stops does. For a stop that has none
+    /// ([`Stop::has_address`]) any address but 0 makes the state malformed.
+    ///
+    /// ```
+    /// use phuyurik::{Board, Refusal, Row, State, Stop};
+    /// let (mut row, mut state) = (Row::default(), State::fresh());
+    /// let mut board = Board::new(&mut [], &mut row);
+    /// state.set_stop_at(Stop::StoreOutside, 0x1000);
+    /// assert_eq!(board.step(&mut state), Ok(()));
+    /// assert_eq!((state.stop(), state.address()), (Ok(Stop::StoreOutside), 0x1000));
+    /// state.set_stop_at(Stop::Ecall, 0x1000);
+    /// assert_eq!(board.step(&mut state), Err(Refusal::State.into()));
+    /// ```
+    pub fn set_stop_at(&mut self, stop: Stop, address: u32) {
+        self.set_stop(stop);
+        self.address = address;
+    }
+
+    /// Where the run stopped: pc for an illegal instruction, the halfword that could not be fetched
+    /// (at pc, or at pc + 2), the address that was loaded from or stored to. In a state that is not
+    /// malformed it is 0 for a stop that has none ([`Stop::has_address`]); also in a record that was
+    /// written before there were addresses.
+    ///
+    /// ```
+    /// use phuyurik::{Board, Row, State, Stop};
+    /// let (mut memory, mut row) = ([0x83, 0x22, 0x00, 0x7D], Row::default()); // lw x5,2000(x0)
+    /// let mut state = State::fresh();
+    /// Board::new(&mut memory, &mut row).step(&mut state)?;
+    /// assert_eq!((state.stop(), state.address()), (Ok(Stop::LoadOutside), 2000));
+    /// # Ok::<(), phuyurik::Error>(())
+    /// ```
+    pub const fn address(&self) -> u32 {
+        self.address
     }
 
     /// The number of the stop, as [`Stop::number`] gives it, whatever it is.
@@ -108,7 +148,8 @@ impl State {
     /// ```
     pub fn set_stop_number(&mut self, number: u8) {
         self.stop_number = number;
-        self.zero = [0; 7];
+        self.zero = [0; 3];
+        self.address = 0;
     }
 
     /// Register `n`; x0 is 0.
@@ -175,7 +216,8 @@ impl State {
         }
         bytes[128..136].copy_from_slice(&self.count.to_le_bytes());
         bytes[136] = self.stop_number;
-        bytes[137..].copy_from_slice(&self.zero);
+        bytes[137..140].copy_from_slice(&self.zero);
+        bytes[140..].copy_from_slice(&self.address.to_le_bytes());
         bytes
     }
 
@@ -194,14 +236,13 @@ impl State {
         let word = |at: usize| {
             u32::from_le_bytes([bytes[at], bytes[at + 1], bytes[at + 2], bytes[at + 3]])
         };
-        let mut zero = [0; 7];
-        zero.copy_from_slice(&bytes[137..]);
         State {
             pc: word(0),
             x: std::array::from_fn(|place| word(4 + 4 * place)),
             count: u64::from(word(132)) << 32 | u64::from(word(128)),
             stop_number: bytes[136],
-            zero,
+            zero: [bytes[137], bytes[138], bytes[139]],
+            address: word(140),
         }
     }
 
@@ -237,7 +278,23 @@ mod tests {
         assert_eq!((state.pc, state.reg(1)), (0x0302_0100, 0x0706_0504));
         assert_eq!((state.reg(31), state.stop_number), (0x7F7E_7D7C, 136));
         assert_eq!(state.count, 0x8786_8584_8382_8180);
+        assert_eq!(state.address(), 0x8F8E_8D8C);
         assert_eq!(state.to_bytes(), bytes);
+    }
+
+    /// Whatever stood after the old stop's number is gone, the zeros of a malformed state too.
+    #[test]
+    fn a_stop_is_set_whole() {
+        let stopped = State::from_bytes(std::array::from_fn(|at| at as u8));
+        let mut expected = stopped.to_bytes();
+        expected[136..].copy_from_slice(&[2, 0, 0, 0, 0, 0, 0, 0]);
+        let mut state = stopped;
+        state.set_stop(Stop::Ebreak);
+        assert_eq!(state.to_bytes(), expected);
+        expected[136..].copy_from_slice(&[6, 0, 0, 0, 0x78, 0x56, 0x34, 0x12]);
+        let mut state = stopped;
+        state.set_stop_at(Stop::LoadOutside, 0x1234_5678);
+        assert_eq!(state.to_bytes(), expected);
     }
 
     /// The bytes in memory are the record's, which is what the archive goes by.

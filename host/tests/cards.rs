@@ -1,5 +1,6 @@
 //! The paper's further cards, through the wrapper. What is expected is the paper's: the last
-//! paragraph of "Bench cards", and from "One step, one run" that a stop changes nothing else.
+//! paragraph of "Bench cards", and from "One step, one run" that a stop changes nothing but the stop
+//! number and its address.
 use phuyurik::*;
 
 // lw x5,0(x1) and lh x5,0(x1)
@@ -35,9 +36,9 @@ fn check_step(memory: &mut [u8], before: &State, after: &State) {
     assert_eq!(row, Row::default());
 }
 
-fn check_stop(memory: &mut [u8], before: &State, stop: Stop) {
+fn check_stop(memory: &mut [u8], before: &State, stop: Stop, address: u32) {
     let mut after = *before;
-    after.set_stop(stop);
+    after.set_stop_at(stop, address);
     check_step(memory, before, &after);
 }
 
@@ -45,7 +46,8 @@ fn check_stop(memory: &mut [u8], before: &State, stop: Stop) {
 fn lw_at_the_end_of_every_memory() {
     let mut full = memory(LOAD_WORD);
     for size in (4..=LONGEST_MEMORY).step_by(4) {
-        let last = size as u32 - 4;
+        let end = size as u32;
+        let last = end - 4;
         let before = fresh_with(1, last);
         let mut after = before;
         after.set_reg(5, if last == 0 { LOAD_WORD } else { !last });
@@ -54,8 +56,9 @@ fn lw_at_the_end_of_every_memory() {
         check_step(&mut full[..size], &before, &after);
         check_stop(
             &mut full[..size],
-            &fresh_with(1, size as u32),
+            &fresh_with(1, end),
             Stop::LoadOutside,
+            end,
         );
     }
     assert_eq!(full, memory(LOAD_WORD));
@@ -65,7 +68,8 @@ fn lw_at_the_end_of_every_memory() {
 fn lh_at_every_odd_address() {
     let mut full = memory(LOAD_HALF);
     for address in (1..LONGEST_MEMORY as u32).step_by(2) {
-        check_stop(&mut full, &fresh_with(1, address), Stop::LoadMisaligned);
+        let before = fresh_with(1, address);
+        check_stop(&mut full, &before, Stop::LoadMisaligned, address);
     }
     assert_eq!(full, memory(LOAD_HALF));
 }
@@ -80,5 +84,8 @@ fn short_shift_by_31_and_by_32() {
     check_step(&mut SHIFT_BY_31.to_le_bytes(), &before, &after);
     let refused = Error::Refused(Refusal::NoInstruction);
     assert_eq!(expand(SHIFT_BY_32), Err(refused));
-    check_stop(&mut SHIFT_BY_32.to_le_bytes(), &before, Stop::Illegal);
+    let mut before = before;
+    before.pc = 2;
+    let mut memory = [[0; 2], SHIFT_BY_32.to_le_bytes()].concat();
+    check_stop(&mut memory, &before, Stop::Illegal, 2);
 }

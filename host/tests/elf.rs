@@ -131,7 +131,7 @@ fn cut_off_it_is_carried_on_in_the_memory_it_had() {
 fn without_room_for_its_stack_it_stops_and_burns_nothing() {
     let folder = with_recipe();
     let done = call(&folder, &format!("{RUN} --budget 100000 --new"), 18);
-    assert!(text(done.stdout).contains("\nstop 8: store outside\n"));
+    assert!(text(done.stdout).contains("\nstop 8: store outside, at 0x00000f"));
     assert_eq!(row(&folder), Row::default());
 }
 

@@ -71,6 +71,17 @@ fn stops() {
     assert_eq!(listed("phuyurik_stop"), wrapper);
 }
 
+/// The header lists the stops that have an address, and no other.
+#[test]
+fn addresses() {
+    let body = between(" phuyurik_stop_has_address(", "\n}");
+    let words = body.split(|letter: char| !letter.is_alphanumeric() && letter != '_');
+    let header: Vec<_> = words.filter(|word| word.starts_with("PHUYURIK_")).collect();
+    let with = Stop::ALL.iter().filter(|stop| stop.has_address());
+    let wrapper: Vec<_> = with.map(|stop| in_c(format!("{stop:?}"))).collect();
+    assert_eq!(header, wrapper);
+}
+
 #[test]
 fn operations() {
     let named = |one: &Operation| (in_c(format!("Op{one:?}")), one.number());

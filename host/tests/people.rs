@@ -471,12 +471,16 @@ const END: &str = "retired 0 in this run\ncount 8\nstop 1: ecall\npc 32 (0x00000
                    word 0 burnt with 0 (0x00000000)\nword 1 burnt with 1 (0x00000001)\n";
 const NOT_TOLD: &str = "phuyurik: note: the run in slot 0 had ended, and its end was not told\n";
 
-/// A recipe of two words has come to its end, and its report could not be written.
+/// The recipe comes to its end, and its report cannot be written.
+fn ends_unheard(folder: &Folder) {
+    let run = run_line("--slot 0 --budget 100");
+    let full = in_shell(folder, &format!("phuyurik {run} > /dev/full"));
+    assert_eq!((full.code, &*full.out), (8, ""));
+}
+
 fn with_end_not_told() -> Folder {
     let folder = with_words(2);
-    let run = run_line("--slot 0 --budget 100");
-    let full = in_shell(&folder, &format!("phuyurik {run} > /dev/full"));
-    assert_eq!((full.code, &*full.out), (8, ""));
+    ends_unheard(&folder);
     assert_eq!(folder.get("part.row"), burnt(2));
     folder
 }
@@ -624,6 +628,19 @@ fn the_end_of_another_run_is_not_told_for_this_one() {
         assert!(!part.err.contains("not told"), "{}", part.err);
         assert_eq!(folder.get("part.row"), burnt(2));
     }
+}
+
+/// Also where nothing was burnt that would tell the two parts apart.
+#[test]
+fn the_end_on_another_part_is_not_told_for_a_new_one() {
+    let folder = with_paper();
+    // addi x0,x0,0; ecall
+    folder.write("trim.bin", &[0x13, 0, 0, 0, 0x73, 0, 0, 0]);
+    ends_unheard(&folder);
+    folder.remove("part.row");
+    let part = folder.run("--slot 0 --budget 100 --new");
+    assert_eq!(part.code, 0, "{}", part.err);
+    assert!(part.out.starts_with("retired 1 in this run\n"));
 }
 
 #[test]

@@ -125,7 +125,7 @@ fn the_papers_recipe_is_run_and_started_anew() {
                 count 3\nstop 1: ecall\n";
     assert_eq!(folder.call("slot line.slots 0").out, slot);
     let again = folder.run("--slot 0 --budget 100");
-    let facts = "retired 2 in this run\ncount 2\nstop 9: word already burnt\n\
+    let facts = "retired 2 in this run\ncount 2\nstop 9: word already burnt, at 0x80000000\n\
                  pc 6 (0x00000006)\nno word burnt since the recipe's start\n";
     assert_eq!((again.code, &*again.out), (19, facts));
     assert_eq!(again.err, "");
@@ -174,24 +174,31 @@ fn a_budget_used_up_is_a_pause_and_the_run_is_resumed() {
 
 #[test]
 fn a_stop_is_10_and_its_number() {
-    let stops: [(&[u8], i32); 7] = [
-        (&[0x02, 0x90], 12),             // c.ebreak
-        (&[0x00, 0x00], 13),             // no instruction
-        (&[], 14),                       // nothing to fetch
-        (&[0x83, 0x12, 0x10, 0x00], 15), // lh x5,1(x0)
-        (&[0x83, 0x22, 0xC0, 0xFF], 16), // lw x5,-4(x0)
-        (&[0xA3, 0x10, 0x00, 0x00], 17), // sh x0,1(x0)
-        (&[0x23, 0x2E, 0x00, 0xFE], 18), // sw x0,-4(x0)
+    // Each after a c.nop, so that pc is 2: c.ebreak, no instruction, nothing, half of a load,
+    // lh x5,1(x0), lw x5,-4(x0), sh x0,1(x0), sw x0,-4(x0).
+    let stops: [(&[u8], i32, &str); 8] = [
+        (&[0x02, 0x90], 12, "ebreak"),
+        (&[0x00, 0x00], 13, "illegal instruction, at 0x00000002"),
+        (&[], 14, "fetch outside, at 0x00000002"),
+        (&[0x83, 0x12], 14, "fetch outside, at 0x00000004"),
+        (&[0x83, 0x12, 0x10, 0], 15, "load misaligned, at 0x00000001"),
+        (&[0x83, 0x22, 0xC0, 0xFF], 16, "load outside, at 0xfffffffc"),
+        (&[0xA3, 0x10, 0, 0], 17, "store misaligned, at 0x00000001"),
+        (&[0x23, 0x2E, 0, 0xFE], 18, "store outside, at 0xfffffffc"),
     ];
-    for (image, code) in stops {
+    for (last, code, words) in stops {
         let folder = with_paper();
-        folder.write("trim.bin", image);
+        folder.write("trim.bin", &[&[0x01, 0x00], last].concat());
         let first = folder.run("--slot 0 --budget 5");
         assert_eq!(first.code, code);
-        assert!(first.out.contains(&format!("\nstop {}: ", code - 10)));
+        let line = format!("\nstop {}: {words}\n", code - 10);
+        assert!(first.out.contains(&line), "{}", first.out);
+        let slot = folder.call("slot line.slots 0").out;
+        assert!(slot.ends_with(&line), "{slot}");
         // Resumed, it stays stopped.
         let again = folder.run("--slot 0 --budget 5 --resume");
-        assert_eq!((again.code, again.out), (code, first.out));
+        let told = first.out.replace("retired 1", "retired 0");
+        assert_eq!((again.code, again.out), (code, told));
         assert_eq!(folder.get("part.row"), vec![0; ROW]);
     }
 }
@@ -561,7 +568,7 @@ fn the_demo_shows_the_papers_facts_and_leaves_nothing() {
         "word 0 burnt with 7 ",
         "1 burnt, 63 blank\n",
         "retired 2 in this run\n",
-        "stop 9: word already burnt\npc 6 ",
+        "stop 9: word already burnt, at 0x80000000\npc 6 ",
         "no word burnt since the recipe's start\n",
     ] {
         assert!(out.contains(fact), "{fact}");

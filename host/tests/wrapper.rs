@@ -71,10 +71,10 @@ fn cards_11_and_12() {
     let burnt = Row::from(burnt);
     let (retired, s) = recipe_on(&mut row, 100);
     assert_eq!((retired, s.stop(), s.pc), (3, Ok(Stop::Ecall), 10));
-    assert_eq!(row, burnt);
+    assert_eq!((&row, s.address()), (&burnt, 0));
     let (retired, s) = recipe_on(&mut row, 100);
     assert_eq!((retired, s.stop(), s.pc), (2, Ok(Stop::AlreadyBurnt), 6));
-    assert_eq!(row, burnt);
+    assert_eq!((&row, s.address()), (&burnt, 0x8000_0000));
     let mut row = Row::default();
     let (retired, s) = recipe_on(&mut row, 3);
     assert_eq!((retired, s.stop(), s.pc), (3, Ok(Stop::Paused), 10));
@@ -108,7 +108,7 @@ fn slots_keep_states() {
     s.pc = 0x1234_5678;
     s.set_reg(31, 99);
     s.count = u64::MAX;
-    s.set_stop(Stop::LoadOutside);
+    s.set_stop_at(Stop::LoadOutside, 0x8765_4321);
     slots.write(1, &s).unwrap();
     assert_eq!((slots.read(1), slots.len()), (Ok(s), 3));
     assert_eq!(slots.read(0), refused(Refusal::State));
@@ -129,22 +129,71 @@ fn slots_keep_states() {
     assert_eq!(odd.read(0), refused(Refusal::Slot));
 }
 
-/// A lent state is its record: bytes 137 to 143 are looked at, too.
+/// What each call answers for a state, given as its record. Nothing that was lent may change where it
+/// refuses, nor where the state has stopped.
+fn answers(record: [u8; RECORD]) -> [Result<(), Error>; 5] {
+    let (mut memory, mut row) = (RECIPE, Row::default());
+    let mut board = Board::new(&mut memory, &mut row);
+    let mut s = State::from_bytes(record);
+    let (mut slots, mut other) = (Slots::new(record), Slots::new([0; RECORD]));
+    let all = [
+        board.step(&mut s),
+        board.run(&mut s, 9).map(|_| ()),
+        other.write(0, &s),
+        slots.read(0).map(|read| assert_eq!(read, s)),
+        board.run_slot(&mut slots, 0, 9).map(|_| ()),
+    ];
+    assert_eq!((s.to_bytes(), slots.into_inner()), (record, record));
+    let written = if all[2].is_ok() { record } else { [0; RECORD] };
+    assert_eq!(other.into_inner(), written);
+    assert_eq!((memory, row), (RECIPE, Row::default()));
+    all
+}
+
+/// Bytes 137 to 139 are zero with every stop; 140 to 143, the address, with those that have none.
 #[test]
-fn a_state_whose_last_bytes_are_not_zero_is_malformed() {
-    for at in 137..RECORD {
-        let mut bytes = State::fresh().to_bytes();
-        bytes[at] = 1;
-        let mut s = State::from_bytes(bytes);
-        let (mut memory, mut row) = (RECIPE, Row::default());
-        let mut board = Board::new(&mut memory, &mut row);
-        assert_eq!(board.step(&mut s), refused(Refusal::State));
-        assert_eq!(board.run(&mut s, 9), refused(Refusal::State));
-        let mut slots = Slots::new([0; RECORD]);
-        assert_eq!(slots.write(0, &s), refused(Refusal::State));
-        assert_eq!(slots.into_inner(), [0; RECORD]);
-        assert_eq!((s.to_bytes(), row), (bytes, Row::default()));
+fn what_stands_after_a_stop() {
+    for (stop, at) in (0..=10).flat_map(|stop| (137..RECORD).map(move |at| (stop, at))) {
+        let mut record = State::fresh().to_bytes();
+        (record[136], record[at]) = (stop, 1);
+        let answer = match (stop, at) {
+            (3..=9, 140..) => Ok(()),
+            _ => refused(Refusal::State),
+        };
+        assert_eq!(answers(record), [answer; 5], "stop {stop}, byte {at}");
     }
+}
+
+/// Three slots that version 0.2.0 wrote, before there were addresses: the paper's recipe paused after
+/// two steps, the same on its own burnt row, and `c.li x5,7; lw x5,2000(x0)`.
+const OLD_SLOTS: &[u8; 3 * RECORD] = include_bytes!("old.slots");
+
+#[test]
+fn old_records_of_stops_still_load() {
+    let slots = Slots::new(OLD_SLOTS);
+    let (burnt, outside) = (slots.read(1).unwrap(), slots.read(2).unwrap());
+    assert_eq!((burnt.stop(), burnt.address()), (Ok(Stop::AlreadyBurnt), 0));
+    assert_eq!((burnt.pc, burnt.reg(6), burnt.count), (6, 1 << 31, 2));
+    assert_eq!(
+        (outside.stop(), outside.address()),
+        (Ok(Stop::LoadOutside), 0)
+    );
+    assert_eq!((outside.pc, outside.reg(5), outside.count), (2, 7, 1));
+    for record in OLD_SLOTS.chunks_exact(RECORD).skip(1) {
+        assert_eq!(answers(record.try_into().unwrap()), [Ok(()); 5]);
+    }
+}
+
+#[test]
+fn an_old_record_of_a_pause_goes_on() {
+    let mut slots = Slots::new(*OLD_SLOTS);
+    assert_eq!(slots.read(0).unwrap().stop(), Ok(Stop::Paused));
+    let (mut memory, mut row) = (RECIPE, Row::default());
+    let mut board = Board::new(&mut memory, &mut row);
+    assert_eq!(board.run_slot(&mut slots, 0, 9), Ok(1));
+    let s = slots.read(0).unwrap();
+    assert_eq!((s.stop(), s.address()), (Ok(Stop::Ecall), 0));
+    assert_eq!((s.pc, s.count, row.word(0)), (10, 3, Word::Burnt(7)));
 }
 
 #[test]

@@ -6,6 +6,7 @@ use lib.ListN.{length}
 use lib.Dec.{eqb}
 use Rattle.word.specs.Bits.{sext}
 use Rattle.answers.specs.Outcomes.{Outcome, outcome}
+use Rattle.answers.specs.Stops.{cause}
 use Rattle.answers.specs.declared.Stop.the-variants.{LoadMisaligned, LoadOutside, StoreMisaligned, StoreOutside, AlreadyBurnt}
 use Rattle.isa.specs.declared.Reg.{Reg}
 use Rattle.isa.specs.declared.LoadOp.{LoadOp}
@@ -46,19 +47,19 @@ extended Lw v = v
 extended Lbu v = v
 extended Lhu v = v
 
--- rd gets what is at the place, and the next instruction is at next
-unfoldable pub loadedFrom : Place → LoadOp → Reg → ℕ → Board → Effect
-loadedFrom (Memory i) o rd next b = Next rd (extended o (load (widthBytes (loadWidth o)) i (b .mem))) next
-loadedFrom (Fuse k) o rd next b = Next rd (valueAt k (b .row)) next
-loadedFrom Misaligned o rd next b = Halt LoadMisaligned
-loadedFrom Outside o rd next b = Halt LoadOutside
+-- rd gets what is at the place of the address a, and the next instruction is at next; a stop has the address
+unfoldable pub loadedFrom : Place → LoadOp → Reg → ℕ → ℕ → Board → Effect
+loadedFrom (Memory i) o rd a next b = Next rd (extended o (load (widthBytes (loadWidth o)) i (b .mem))) next
+loadedFrom (Fuse k) o rd a next b = Next rd (valueAt k (b .row)) next
+loadedFrom Misaligned o rd a next b = Halt (cause LoadMisaligned a)
+loadedFrom Outside o rd a next b = Halt (cause LoadOutside a)
 
 -- the place of the address a
 abbrev pub loadPlace : LoadOp → ℕ → Board → Place
 loadPlace o a b = placed (widthBytes (loadWidth o)) a (length (b .mem))
 
 abbrev pub loaded : LoadOp → Reg → ℕ → ℕ → Board → Effect
-loaded o rd a next b = loadedFrom (loadPlace o a b) o rd next b
+loaded o rd a next b = loadedFrom (loadPlace o a b) o rd a next b
 
 -- ---- stores
 
@@ -71,20 +72,20 @@ storeWidth Sw = Four
 abbrev pub onTo : ℕ → Effect
 onTo next = Next x0 0 next
 
--- to word k of the row f: a blank word is burnt with v, also with 0; at a burnt word it stops
-unfoldable pub storedWord : ℕ → ℕ → ℕ → List ℕ → Outcome Effect (List ℕ)
-storedWord k v next f = cond (eqb (markAt k f) 0) (outcome (onTo next) (burnt k v f)) (outcome (Halt AlreadyBurnt) f)
+-- to word k of the row f, at the address a: a blank word is burnt with v, also with 0; at a burnt word it stops
+unfoldable pub storedWord : ℕ → ℕ → ℕ → ℕ → List ℕ → Outcome Effect (List ℕ)
+storedWord k v a next f = cond (eqb (markAt k f) 0) (outcome (onTo next) (burnt k v f)) (outcome (Halt (cause AlreadyBurnt a)) f)
 
--- v goes to the place: into memory, or to a word of the row
-unfoldable pub storedTo : Place → StoreOp → ℕ → ℕ → Board → Done
-storedTo (Memory i) o v next b = outcome (onTo next) (board (store (widthBytes (storeWidth o)) i v (b .mem)) (b .row))
-storedTo (Fuse k) o v next b = outcome (storedWord k v next (b .row) .answer) (board (b .mem) (storedWord k v next (b .row) .lent))
-storedTo Misaligned o v next b = outcome (Halt StoreMisaligned) b
-storedTo Outside o v next b = outcome (Halt StoreOutside) b
+-- v goes to the place of the address a: into memory, or to a word of the row
+unfoldable pub storedTo : Place → StoreOp → ℕ → ℕ → ℕ → Board → Done
+storedTo (Memory i) o v a next b = outcome (onTo next) (board (store (widthBytes (storeWidth o)) i v (b .mem)) (b .row))
+storedTo (Fuse k) o v a next b = outcome (storedWord k v a next (b .row) .answer) (board (b .mem) (storedWord k v a next (b .row) .lent))
+storedTo Misaligned o v a next b = outcome (Halt (cause StoreMisaligned a)) b
+storedTo Outside o v a next b = outcome (Halt (cause StoreOutside a)) b
 
 -- the place of the address a
 abbrev pub storePlace : StoreOp → ℕ → Board → Place
 storePlace o a b = placed (widthBytes (storeWidth o)) a (length (b .mem))
 
 abbrev pub stored : StoreOp → ℕ → ℕ → ℕ → Board → Done
-stored o v a next b = storedTo (storePlace o a b) o v next b
+stored o v a next b = storedTo (storePlace o a b) o v a next b

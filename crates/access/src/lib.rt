@@ -1,4 +1,5 @@
 // Loads and stores: where the access lies, and what it does there.
+use answers::Cause;
 use answers::Stop;
 use fuses::burn;
 use fuses::is_burnt;
@@ -26,7 +27,7 @@ ghost use Rattle.access.specs.Accesses.{loadWidth, extended, loaded, onT
 // What an instruction does: a register gets a value and the next instruction is at pc, or the run stops.
 pub enum Effect {
     Next { rd: Reg, value: u32, pc: u32 },
-    Halt(Stop),
+    Halt(Cause),
 }
 
 fn load_width(op: LoadOp) -> Width
@@ -82,8 +83,14 @@ pub fn load(op: LoadOp, rd: Reg, address: u32, next: u32, mem: &[u8], row: &[u8]
             value: value_of(row, k),
             pc: next,
         },
-        Place::Misaligned => Effect::Halt(Stop::LoadMisaligned),
-        Place::Outside => Effect::Halt(Stop::LoadOutside),
+        Place::Misaligned => Effect::Halt(Cause {
+            stop: Stop::LoadMisaligned,
+            address,
+        }),
+        Place::Outside => Effect::Halt(Cause {
+            stop: Stop::LoadOutside,
+            address,
+        }),
     }
 }
 
@@ -98,14 +105,18 @@ fn on_to(next: u32) -> Effect
     }
 }
 
-// A store of v to word k of the row.
-fn store_word(row: &mut [u8], k: usize, v: u32, next: u32) -> Effect
+// A store of v to word k of the row, which stands at an address.
+fn store_word(row: &mut [u8], k: usize, v: u32, address: u32, next: u32) -> Effect
     requires { ⌜ k < 64 ⌝ }
     requires { ⌜ length (now row) ≡ 512 ⌝ }
-    ensures { λ r. ⌜ outcome r (now (row .exit)) ≡ storedWord k v next (now (row .entry)) ⌝ }
+    ensures { λ r. ⌜ outcome r (now (row .exit)) ≡ storedWord k v address next (now (row .entry)) ⌝ }
 {
     if is_burnt(row, k) {
-        return Effect::Halt(Stop::AlreadyBurnt);
+        let why = Cause {
+            stop: Stop::AlreadyBurnt,
+            address,
+        };
+        return Effect::Halt(why);
     }
     burn(row, k, v);
     on_to(next)
@@ -123,8 +134,14 @@ pub fn store(op: StoreOp, v: u32, address: u32, next: u32, mem: &mut [u8], row: 
             store_of(mem, at, width, v);
             on_to(next)
         }
-        Place::Fuse(k) => store_word(row, k, v, next),
-        Place::Misaligned => Effect::Halt(Stop::StoreMisaligned),
-        Place::Outside => Effect::Halt(Stop::StoreOutside),
+        Place::Fuse(k) => store_word(row, k, v, address, next),
+        Place::Misaligned => Effect::Halt(Cause {
+            stop: Stop::StoreMisaligned,
+            address,
+        }),
+        Place::Outside => Effect::Halt(Cause {
+            stop: Stop::StoreOutside,
+            address,
+        }),
     }
 }

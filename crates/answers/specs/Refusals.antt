@@ -12,7 +12,7 @@ numberOf RowLength = 2
 numberOf RowRecord = 3
 -- slot buffer not a multiple of 144, or no such slot
 numberOf Slot = 4
--- state malformed, or, on reading, its record's bytes 137-143 not zero
+-- state malformed, or, on reading, its record's bytes 137-139 not zero
 numberOf State = 5
 -- text room under 24 bytes
 numberOf Room = 6

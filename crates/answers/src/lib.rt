@@ -72,3 +72,9 @@ impl Stop {
         }
     }
 }
+
+// A stop, and the address that belongs to it.
+pub struct Cause {
+    pub stop: Stop,
+    pub address: u32,
+}

@@ -1,12 +1,16 @@
 -- What every step keeps: the state stays sound, and so does the board; so what an entry accepts it accepts again after any steps.
 -- The argument: what an instruction computes fits, its next pc is even because every immediate of a decoded jump or branch is, and a store leaves a sound board. Assumes nothing.
-use mathlib.Core.Path.{_≡_, _∙_}
+use mathlib.Core.Path.{_≡_, refl, sym, subst, _∙_}
 use mathlib.Core.Bool.{true}
-use mathlib.Core.Logic.{⊎-elim}
+use mathlib.Core.Logic.{inl, inr, ⊎-elim}
 use Prim.Native.Nat.{ℕ, zero, suc, _+_, _-_, _%_, _^_, _<_}
 use native.Mathlib.Omega.{arith}
+use lib.Dec.{leb}
+use lib.ListN.{length}
 use borrow.Author.Tests.{eqb-true, ltb-true}
 use Rattle.answers.proofs.Checks.{both-passed}
+use Rattle.answers.specs.declared.Cause.{Cause}
+use Rattle.answers.specs.declared.Stop.the-variants as S
 use Rattle.answers.specs.declared.Check.the-variants.{Passed}
 use Rattle.answers.specs.declared.Refusal.the-variants as R
 use Rattle.word.proofs.Bools.{either, second}
@@ -20,7 +24,7 @@ use Rattle.isa.specs.Registers.{x0}
 use Rattle.octets.specs.Widths.{widthBytes}
 use Rattle.octets.proofs.Bytes.{all-bytes}
 use Rattle.state.specs.States.{registerOf, wellFormed, stateChecked}
-use Rattle.state.proofs.Laws.{register-lt, formed-even, SoundState, Address, advanced-sound, halted-sound}
+use Rattle.state.proofs.Laws.{register-lt, formed-even, SoundState, SoundCause, Address, advanced-sound, halted-sound}
 use Rattle.alu.specs.Arithmetic.{sum, takes}
 use Rattle.alu.proofs.Bounds.{arith-lt, imm-lt, shift-lt, muldiv-lt}
 use Rattle.boards.proofs.Boards.{SoundBoard, board-accepted, lendable-passes, sound-store, sound-burnt}
@@ -28,8 +32,8 @@ use Rattle.access.specs.Accesses.{Done, storeWidth}
 use Rattle.execute.specs.declared.Act.{Act}
 use Rattle.execute.specs.declared.Act.the-variants.{Sets, Loads, Stores, Ends}
 use Rattle.execute.specs.Execution.{evened, actOf}
-use Rattle.execute.proofs.Acts.{Comes, sets, loads, into-memory, into-row, stops}
-use Rattle.fetch.proofs.Laws.{fetched-real}
+use Rattle.execute.proofs.Acts.{Comes, sets, loads, into-memory, into-row, stops, StopsBy}
+use Rattle.fetch.proofs.Laws.{FailsBy, fetch-fails, fetched-real}
 use Rattle.engine.specs.Steps.{World, Sized, checked, asked, applied, after, stepped, ran}
 use Rattle.engine.proofs.Walk.{by-asked, walk}
 
@@ -56,9 +60,9 @@ Onward n pc = Address pc × (n < 2 ^ 64 - 1)
 
 abbrev ActFits : ℕ → Act → Type 0
 ActFits n (Sets rd v pc) = (v < 2 ^ 32) × Onward n pc
-ActFits n (Loads o rd a pc) = Onward n pc
-ActFits n (Stores o v a pc) = Onward n pc
-ActFits n (Ends why) = Unit {0}
+ActFits n (Loads o rd a pc) = (a < 2 ^ 32) × Onward n pc
+ActFits n (Stores o v a pc) = (a < 2 ^ 32) × Onward n pc
+ActFits n (Ends why) = SoundCause why
 
 module _ (w : World) (g : Runnable w) where
   read-lt : (r : Reg) → registerOf (w .st .x) r < 2 ^ 32
@@ -81,8 +85,8 @@ module _ (w : World) (g : Runnable w) where
     inst-fits (Branch o rs1 rs2 imm) to h t =
         let even : imm % 2 ≡ 0 = eqb-true (imm % 2) 0 (second (signedOk 13 imm) _ (second (regOk rs2) _ (second (regOk rs1) _ h))) in
         (omega arith, either (Onward (w .st .count)) (takes o (registerOf (w .st .x) rs1) (registerOf (w .st .x) rs2)) _ _ (aside imm even) t)
-    inst-fits (Load o rd rs1 imm) to h t = t
-    inst-fits (Store o rs1 rs2 imm) to h t = t
+    inst-fits (Load o rd rs1 imm) to h t = (low-lt _ 32, t)
+    inst-fits (Store o rs1 rs2 imm) to h t = (low-lt _ 32, t)
     inst-fits (Imm o rd rs1 imm) to h t =
         (imm-lt o _ imm (read-lt rs1) (signed-lt 12 imm (omega arith) (omega arith) (second (regOk rs1) _ (second (regOk rd) _ h))), t)
     inst-fits (Shift o rd rs1 shamt) to h t =
@@ -90,29 +94,41 @@ module _ (w : World) (g : Runnable w) where
         (shift-lt o _ shamt (read-lt rs1) (omega arith), t)
     inst-fits (Arith o rd rs1 rs2) to h t = (arith-lt o _ _ (read-lt rs1) (read-lt rs2), t)
     inst-fits (Fence rd rs1 field) to h t = (omega arith, t)
-    inst-fits Ecall to h t = tt
-    inst-fits Ebreak to h t = tt
+    inst-fits Ecall to h t = (omega arith, refl)
+    inst-fits Ebreak to h t = (omega arith, refl)
     inst-fits (MulDiv o rd rs1 rs2) to h t = (muldiv-lt o _ _ (read-lt rs1) (read-lt rs2), t)
+
+  -- the address of a halfword that could not be fetched fits
+  fail-fits : (why : Cause) → FailsBy (w .st .pc) (w .board .mem) why → SoundCause why
+  fail-fits why (inl e) = rw e (g .0 .0 .pc-fits, refl)
+  fail-fits why (inr e) =
+      rw e (either (λ a. a < 2 ^ 32) (leb (w .st .pc + 2) (length (w .board .mem))) _ _ (low-lt (w .st .pc + 2) 32) (g .0 .0 .pc-fits), refl)
 
   -- an instruction that is fetched is in range, of an even length
   asked-fits : ActFits (w .st .count) (asked w)
   asked-fits =
-      by-asked w (ActFits (w .st .count)) (λ why. tt)
+      by-asked w (ActFits (w .st .count)) (omega arith, refl) (λ why e. fail-fits why (fetch-fails (w .st .pc) (w .board .mem) e))
       (λ i len room e.
       let r = fetched-real (w .st .pc) (w .board .mem) (all-bytes (w .board .mem) (g .1 .0 .mem-bytes)) e in
       inst-fits room i (sum (w .st .pc) len) (r .in-range) (aside room len (⊎-elim (λ k. omega arith) (λ k. omega arith) (r .size))))
 
   -- ---- what comes of it
 
+  stop-fits : (a : Act) (why : Cause) → StopsBy a why → ActFits (w .st .count) a → SoundCause why
+  stop-fits (Sets rd v pc) why by h = absurd by
+  stop-fits (Loads o rd a pc) why by h = ⊎-elim (λ e. rw e (h .0, refl)) (λ e. rw e (h .0, refl)) by
+  stop-fits (Stores o v a pc) why by h = ⊎-elim (λ e. rw e (h .0, refl)) (λ r. ⊎-elim (λ e. rw e (h .0, refl)) (λ e. rw e (h .0, refl)) r) by
+  stop-fits (Ends c) why by h = subst SoundCause (sym by) h
+
   runnable-after : {a : Act} {d : Done} → Comes (w .board) a d → ActFits (w .st .count) a → Runnable (after d (w .st))
   unfolding applied
   runnable-after (sets rd v pc) h = (advanced-sound rd v pc (w .st) (h .0) (h .1 .0) (h .1 .1) (g .0), g .1)
-  runnable-after (loads o rd a pc v fits) h = (advanced-sound rd v pc (w .st) (fits (g .1 .0)) (h .0) (h .1) (g .0), g .1)
+  runnable-after (loads o rd a pc v fits) h = (advanced-sound rd v pc (w .st) (fits (g .1 .0)) (h .1 .0) (h .1 .1) (g .0), g .1)
   runnable-after (into-memory o v a pc i e inside) h =
-      (advanced-sound x0 0 pc (w .st) (omega arith) (h .0) (h .1) (g .0), sound-store (widthBytes (storeWidth o)) i v (w .board) inside (g .1))
+      (advanced-sound x0 0 pc (w .st) (omega arith) (h .1 .0) (h .1 .1) (g .0), sound-store (widthBytes (storeWidth o)) i v (w .board) inside (g .1))
   runnable-after (into-row o v a pc k e below z) h =
-      (advanced-sound x0 0 pc (w .st) (omega arith) (h .0) (h .1) (g .0), sound-burnt k v (w .board) below (g .1))
-  runnable-after (stops a why) h = (halted-sound why (w .st) (g .0), g .1)
+      (advanced-sound x0 0 pc (w .st) (omega arith) (h .1 .0) (h .1 .1) (g .0), sound-burnt k v (w .board) below (g .1))
+  runnable-after (stops a why by) h = (halted-sound why (w .st) (stop-fits a why by h) (g .0), g .1)
 
   runnable-step : Runnable (stepped w)
   runnable-step = walk w (λ c v. Runnable v) (λ e. g) (λ e d c. runnable-after c asked-fits)

@@ -1,4 +1,4 @@
--- The laws of steps and runs: runs add up, a stopped world stays, the count grows by the steps that complete, and a step that stops changes the stop number alone. Assumes nothing.
+-- The laws of steps and runs: runs add up, a stopped world stays, the count grows by the steps that complete, and a step that stops changes the stop number and its address alone. Assumes nothing.
 use Prim.Native.Nat.{ℕ, zero, suc, _+_, _-_, _≤_, _<_, _^_}
 use native.Mathlib.Nat.{zero-add, suc-add}
 use native.Mathlib.Omega.{arith}
@@ -8,9 +8,9 @@ use mathlib.Core.Logic.{_↔_}
 use lib.Dec.{eqb}
 use borrow.Author.Tests.{eqb-true, eq-eqb, ne-eqb, lt-ltb, le-ltb}
 use Rattle.answers.specs.Outcomes.{outcome}
-use Rattle.answers.specs.Stops.{stopNumber}
+use Rattle.answers.specs.Stops.{stopNumber, nowhere}
 use Rattle.answers.proofs.Numbers.{stop-numbered}
-use Rattle.answers.specs.declared.Stop.{Stop}
+use Rattle.answers.specs.declared.Cause.{Cause}
 use Rattle.answers.specs.declared.Stop.the-variants.{CountFull}
 use Rattle.word.specs.Bits.{flag}
 use Rattle.word.proofs.Bools.{flag-le}
@@ -22,7 +22,7 @@ use Rattle.access.specs.declared.Effect.{Effect}
 use Rattle.access.specs.declared.Effect.the-variants.{Next, Halt}
 use Rattle.execute.specs.declared.Act.{Act}
 use Rattle.execute.specs.Execution.{performed}
-use Rattle.execute.proofs.Acts.{Comes, sets, loads, into-memory, into-row, stops}
+use Rattle.execute.proofs.Acts.{Comes, sets, loads, into-memory, into-row, stops, StopsBy}
 use Rattle.engine.specs.Steps.{World, world, actAt, asked, applied, after, paused, stepped, ran, goesOn, completes, retired}
 use Rattle.engine.proofs.Walk.{walk}
 
@@ -85,19 +85,19 @@ counts-up n w = (retired-le n w, count-ran n w)
 -- ---- a step that stops
 
 -- where an act stops, the board is as it was
-clean : {b : Board} {a : Act} {d : Done} → Comes b a d → goesOn (d .answer) ≡ false → (why : Stop) × (d ≡ outcome (Halt why) b)
+clean : {b : Board} {a : Act} {d : Done} → Comes b a d → goesOn (d .answer) ≡ false → (why : Cause) × StopsBy a why × (d ≡ outcome (Halt why) b)
 clean (sets rd v pc) e = absurd (omega (arith, ap flag e))
 clean (loads o rd a pc v h) e = absurd (omega (arith, ap flag e))
 clean (into-memory o v a pc i p h) e = absurd (omega (arith, ap flag e))
 clean (into-row o v a pc k p h z) e = absurd (omega (arith, ap flag e))
-clean (stops a why) e = (why, refl)
+clean (stops a why h) e = (why, h, refl)
 
-pub stops-with : (w : World) → paused w ≡ true → completes w ≡ false → (why : Stop) × (stepped w ≡ world (halted why (w .st)) (w .board))
+pub stops-with : (w : World) → paused w ≡ true → completes w ≡ false → (why : Cause) × StopsBy (asked w) why × (stepped w ≡ world (halted why (w .st)) (w .board))
 unfolding applied
 stops-with w p =
-    walk w (λ c v. c ≡ false → (why : Stop) × (v ≡ world (halted why (w .st)) (w .board)))
+    walk w (λ c v. c ≡ false → (why : Cause) × StopsBy (asked w) why × (v ≡ world (halted why (w .st)) (w .board)))
     (λ e. absurd (omega (arith, ap flag (sym e ∙ p))))
-    (λ e d c f. let s = clean c f in (s .0, ap (λ o. after o (w .st)) (s .1)))
+    (λ e d c f. let s = clean c f in (s .0, s .1, ap (λ o. after o (w .st)) (s .2)))
 
 -- a step that completes leaves the stop number
 stays-paused : (w : World) → completes w ≡ true → paused (stepped w) ≡ true
@@ -117,8 +117,8 @@ paused-exactly (suc n) w p = go (completes w) refl (paused-exactly n (stepped w)
     stopped : completes w ≡ false → paused (ran n (stepped w)) ≡ true → ⊥
     stopped t e =
         let c = stops-with w p t in
-        let least = stop-numbered (c .0) .1 in
-        let s : stepped w .st .stop ≡ stopNumber (c .0) = ap (λ (v : World). v .st .stop) (c .1) in
+        let least = stop-numbered (c .0 .stop) .1 in
+        let s : stepped w .st .stop ≡ stopNumber (c .0 .stop) = ap (λ (v : World). v .st .stop) (c .2) in
         let r = ran-stopped n (stepped w) (λ z. omega arith) in
         omega (arith, eqb-true (ran n (stepped w) .st .stop) 0 e, ap (λ (v : World). v .st .stop) r)
 
@@ -142,13 +142,13 @@ unfolding stepped asked
 step-does w h k t p e = rw (eq-eqb _ _ h, lt-ltb _ _ k, ← t, ← p, e)
 
 -- a step at the last count stops
-pub step-full : (w : World) → w .st .stop ≡ 0 → 2 ^ 64 - 1 ≤ w .st .count → world (halted CountFull (w .st)) (w .board) ≡ stepped w
+pub step-full : (w : World) → w .st .stop ≡ 0 → 2 ^ 64 - 1 ≤ w .st .count → world (halted (nowhere CountFull) (w .st)) (w .board) ≡ stepped w
 unfolding stepped asked performed applied
 step-full w h k = rw (eq-eqb _ _ h, le-ltb _ _ k)
 
 -- .. and so does the run
-pub ran-full : (n : ℕ) (w : World) → 0 < n → w .st .stop ≡ 0 → 2 ^ 64 - 1 ≤ w .st .count → world (halted CountFull (w .st)) (w .board) ≡ ran n w
+pub ran-full : (n : ℕ) (w : World) → 0 < n → w .st .stop ≡ 0 → 2 ^ 64 - 1 ≤ w .st .count → world (halted (nowhere CountFull) (w .st)) (w .board) ≡ ran n w
 ran-full n w p h k =
-    let full : World = world (halted CountFull (w .st)) (w .board) in
+    let full : World = world (halted (nowhere CountFull) (w .st)) (w .board) in
     let e : full ≡ stepped w = step-full w h k in
     sym (ran-stopped (n - 1) full (λ z. omega arith)) ∙ ran-turn n w p e

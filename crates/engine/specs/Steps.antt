@@ -3,6 +3,7 @@ use Prim.Native.Nat.{ℕ, zero, suc, _+_, _-_, _^_}
 use mathlib.Core.Bool.{Bool, true, false, cond, _&&_}
 use mathlib.Core.List.{List}
 use lib.Dec.{eqb, ltb}
+use Rattle.answers.specs.Stops.{nowhere}
 use Rattle.answers.specs.declared.Check.{Check}
 use Rattle.answers.specs.declared.Stop.the-variants.{CountFull}
 use Rattle.word.specs.Bits.{flag}
@@ -50,7 +51,7 @@ actAt pc x m = actFetched (fetched pc m) pc x
 
 -- what the next step of a paused world asks for: the retired count at 2 ^ 64 - 1, then the instruction
 unfoldable pub asked : World → Act
-asked w = cond (ltb (w .st .count) (2 ^ 64 - 1)) (actAt (w .st .pc) (w .st .x) (w .board .mem)) (Ends CountFull)
+asked w = cond (ltb (w .st .count) (2 ^ 64 - 1)) (actAt (w .st .pc) (w .st .x) (w .board .mem)) (Ends (nowhere CountFull))
 
 -- what comes of it
 abbrev pub stepDone : World → Done

@@ -2,6 +2,7 @@
 // and applied.
 use access::Effect;
 use alu::add;
+use answers::Cause;
 use answers::Stop;
 use execute::Act;
 use execute::decide;
@@ -54,7 +55,10 @@ pub fn run_steps(s: State, mem: &mut [u8], row: &mut [u8], budget: u64) -> State
             return t;
         }
         if t.count >= FULL_COUNT {
-            return t.halt(Stop::CountFull);
+            return t.halt(Cause {
+                stop: Stop::CountFull,
+                address: 0,
+            });
         }
         left -= 1;
         let act = act_at(t.pc, &t.x, mem);

@@ -2,14 +2,18 @@
 use mathlib.Core.Path.{_≡_, refl}
 use mathlib.Core.Bool.{Bool, true, false, cond}
 use mathlib.Core.List.{List}
+use mathlib.Core.Logic.{_⊎_, inl, inr}
 use Prim.Native.Nat.{ℕ, _+_, _*_, _^_, _≤_, _<_}
 use lib.ListN.{length}
 use lib.Dec.{eqb}
 use borrow.Author.Tests.{eqb-true}
 use Rattle.answers.specs.Outcomes.{Outcome, outcome}
-use Rattle.answers.specs.declared.Stop.{Stop}
+use Rattle.answers.specs.Stops.{cause, nowhere}
+use Rattle.answers.specs.declared.Cause.{Cause}
 use Rattle.answers.specs.declared.Stop.the-variants as S
 use Rattle.isa.specs.declared.Reg.{Reg}
+use Rattle.isa.specs.declared.Inst.{Inst}
+use Rattle.isa.specs.declared.Inst.the-variants.{Lui, Auipc, Jal, Jalr, Branch, Load, Store, Imm, Shift, Arith, Fence, Ecall, Ebreak, MulDiv}
 use Rattle.isa.specs.declared.LoadOp.{LoadOp}
 use Rattle.isa.specs.declared.StoreOp.{StoreOp}
 use Rattle.octets.specs.Bytes.{store}
@@ -26,7 +30,14 @@ use Rattle.access.specs.Accesses.{Done, loadWidth, loadedFrom, loadPlace, store
 use Rattle.access.proofs.Places.{extended-lt}
 use Rattle.execute.specs.declared.Act.{Act}
 use Rattle.execute.specs.declared.Act.the-variants.{Sets, Loads, Stores, Ends}
-use Rattle.execute.specs.Execution.{performed}
+use Rattle.execute.specs.Execution.{actOf, performed}
+
+-- why an act can stop: an access at the address accessed
+abbrev pub StopsBy : Act → Cause → Type 0
+StopsBy (Sets rd v pc) why = ⊥
+StopsBy (Loads o rd a pc) why = (why ≡ cause S.LoadMisaligned a) ⊎ (why ≡ cause S.LoadOutside a)
+StopsBy (Stores o v a pc) why = (why ≡ cause S.StoreMisaligned a) ⊎ (why ≡ cause S.StoreOutside a) ⊎ (why ≡ cause S.AlreadyBurnt a)
+StopsBy (Ends c) why = why ≡ c
 
 -- the ways in which an act can end on the board b: each act comes to one of them, and what it comes to is no more than this says
 pub data Comes (b : Board) : Act → Done → Type 0 where
@@ -37,33 +48,58 @@ pub data Comes (b : Board) : Act → Done → Type 0 where
       → Comes b (Stores o v a pc) (outcome (onTo pc) (board (store (widthBytes (storeWidth o)) i v (b .mem)) (b .row)))
   into-row : (o : StoreOp) (v a pc k : ℕ) → storePlace o a b ≡ Fuse k → k < 64 → markAt k (b .row) ≡ 0
       → Comes b (Stores o v a pc) (outcome (onTo pc) (board (b .mem) (burnt k v (b .row))))
-  stops : (a : Act) (why : Stop) → Comes b a (outcome (Halt why) b)
+  stops : (a : Act) (why : Cause) → StopsBy a why → Comes b a (outcome (Halt why) b)
 
 module _ (b : Board) where
-  load-comes : (p : Place) (o : LoadOp) (rd : Reg) (a pc : ℕ) → Comes b (Loads o rd a pc) (outcome (loadedFrom p o rd pc b) b)
+  load-comes : (p : Place) (o : LoadOp) (rd : Reg) (a pc : ℕ) → Comes b (Loads o rd a pc) (outcome (loadedFrom p o rd a pc b) b)
   unfolding loadedFrom
   load-comes (Memory i) o rd a pc = loads o rd a pc _ (λ f. extended-lt o _ (load-lt (widthBytes (loadWidth o)) i (b .mem) (f .mem-bytes)))
   load-comes (Fuse k) o rd a pc = loads o rd a pc _ (λ f. load-lt 4 (8 * k) (b .row) (f .row-bytes))
-  load-comes Misaligned o rd a pc = stops _ S.LoadMisaligned
-  load-comes Outside o rd a pc = stops _ S.LoadOutside
+  load-comes Misaligned o rd a pc = stops (Loads o rd a pc) (cause S.LoadMisaligned a) (inl refl)
+  load-comes Outside o rd a pc = stops (Loads o rd a pc) (cause S.LoadOutside a) (inr refl)
 
-  store-comes : (p : Place) (o : StoreOp) (v a pc : ℕ) → storePlace o a b ≡ p → Comes b (Stores o v a pc) (storedTo p o v pc b)
+  store-comes : (p : Place) (o : StoreOp) (v a pc : ℕ) → storePlace o a b ≡ p → Comes b (Stores o v a pc) (storedTo p o v a pc b)
   unfolding storedTo storedWord
   store-comes (Memory i) o v a pc e = into-memory o v a pc i e (placed-memory _ a _ i e .1)
   store-comes (Fuse k) o v a pc e = go (eqb (markAt k (b .row)) 0) refl
     where
       word : Bool → Outcome Effect (List ℕ)
-      word t = cond t (outcome (onTo pc) (burnt k v (b .row))) (outcome (Halt S.AlreadyBurnt) (b .row))
+      word t = cond t (outcome (onTo pc) (burnt k v (b .row))) (outcome (Halt (cause S.AlreadyBurnt a)) (b .row))
 
       go : (t : Bool) → eqb (markAt k (b .row)) 0 ≡ t → Comes b (Stores o v a pc) (outcome (word t .answer) (board (b .mem) (word t .lent)))
       go true z = into-row o v a pc k e (placed-fuse _ a _ k e) (eqb-true _ _ z)
-      go false z = stops _ S.AlreadyBurnt
-  store-comes Misaligned o v a pc e = stops _ S.StoreMisaligned
-  store-comes Outside o v a pc e = stops _ S.StoreOutside
+      go false z = stops (Stores o v a pc) (cause S.AlreadyBurnt a) (inr (inr refl))
+  store-comes Misaligned o v a pc e = stops (Stores o v a pc) (cause S.StoreMisaligned a) (inl refl)
+  store-comes Outside o v a pc e = stops (Stores o v a pc) (cause S.StoreOutside a) (inr (inl refl))
 
   pub comes : (a : Act) → Comes b a (performed a b)
   unfolding performed
   comes (Sets rd v pc) = sets rd v pc
   comes (Loads o rd a pc) = load-comes (loadPlace o a b) o rd a pc
   comes (Stores o v a pc) = store-comes (storePlace o a b) o v a pc refl
-  comes (Ends why) = stops _ why
+  comes (Ends why) = stops (Ends why) why refl
+
+-- ---- an instruction that ends a run does so by ecall or ebreak, which have no address
+
+abbrev pub EndsBare : Act → Type 0
+EndsBare (Sets rd v pc) = Unit {0}
+EndsBare (Loads o rd a pc) = Unit {0}
+EndsBare (Stores o v a pc) = Unit {0}
+EndsBare (Ends why) = (why ≡ nowhere S.Ecall) ⊎ (why ≡ nowhere S.Ebreak)
+
+pub ends-bare : (i : Inst) (to pc : ℕ) (x : List ℕ) → EndsBare (actOf i to pc x)
+unfolding actOf
+ends-bare (Lui rd field) to pc x = tt
+ends-bare (Auipc rd field) to pc x = tt
+ends-bare (Jal rd imm) to pc x = tt
+ends-bare (Jalr rd rs1 imm) to pc x = tt
+ends-bare (Branch o rs1 rs2 imm) to pc x = tt
+ends-bare (Load o rd rs1 imm) to pc x = tt
+ends-bare (Store o rs1 rs2 imm) to pc x = tt
+ends-bare (Imm o rd rs1 imm) to pc x = tt
+ends-bare (Shift o rd rs1 shamt) to pc x = tt
+ends-bare (Arith o rd rs1 rs2) to pc x = tt
+ends-bare (Fence rd rs1 field) to pc x = tt
+ends-bare Ecall to pc x = inl refl
+ends-bare Ebreak to pc x = inr refl
+ends-bare (MulDiv o rd rs1 rs2) to pc x = tt

@@ -3,6 +3,7 @@ use Prim.Native.Nat.{ℕ, _-_, _*_, _%_, _^_}
 use mathlib.Core.Bool.{cond}
 use mathlib.Core.List.{List}
 use Rattle.answers.specs.Outcomes.{outcome}
+use Rattle.answers.specs.Stops.{nowhere}
 use Rattle.answers.specs.declared.Stop.the-variants as S
 use Rattle.isa.specs.declared.Inst.{Inst}
 use Rattle.isa.specs.declared.Inst.the-variants.{Lui, Auipc, Jal, Jalr, Branch, Load, Store, Imm, Shift, Arith, Fence, Ecall, Ebreak, MulDiv}
@@ -39,8 +40,8 @@ actOf (Shift o rd rs1 shamt) next pc x = Sets rd (shiftOf o (registerOf x rs1) s
 actOf (Arith o rd rs1 rs2) next pc x = Sets rd (arithOf o (registerOf x rs1) (registerOf x rs2)) next
 -- fence does nothing but retire
 actOf (Fence rd rs1 field) next pc x = Sets x0 0 next
-actOf Ecall next pc x = Ends S.Ecall
-actOf Ebreak next pc x = Ends S.Ebreak
+actOf Ecall next pc x = Ends (nowhere S.Ecall)
+actOf Ebreak next pc x = Ends (nowhere S.Ebreak)
 actOf (MulDiv o rd rs1 rs2) next pc x = Sets rd (mulDivOf o (registerOf x rs1) (registerOf x rs2)) next
 
 -- what comes of it, on the board b: main memory and the fuse row

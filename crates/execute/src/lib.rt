@@ -8,6 +8,7 @@ use alu::arith_imm;
 use alu::is_taken;
 use alu::mul_div;
 use alu::shift;
+use answers::Cause;
 use answers::Stop;
 use isa::Cond;
 use isa::Inst;
@@ -21,6 +22,8 @@ ghost use lib.ListN.{length};
 ghost use Rattle.answers.specs.Outcomes.{outcome};
 ghost use Rattle.boards.specs.Boards.{board};
 ghost use Rattle.alu.specs.Arithmetic.{sum, takes};
+ghost use Rattle.answers.specs.Stops.{cause};
+ghost use Rattle.execute.specs.declared.Act.the-variants.{Ends};
 ghost use Rattle.execute.specs.Execution.{upperField, evened, actOf, performed};
 
 // What an instruction asks for. Each but the last ends with the address of the next instruction.
@@ -31,7 +34,7 @@ pub enum Act {
     Loads(LoadOp, Reg, u32, u32),
     // a value goes to an address
     Stores(StoreOp, u32, u32, u32),
-    Ends(Stop),
+    Ends(Cause),
 }
 
 fn upper_field(field: u32) -> u32
@@ -56,6 +59,13 @@ fn branch_target(test: Cond, a: u32, b: u32, imm: u32, pc: u32, next: u32) -> u3
     next
 }
 
+// The run ends, with a stop at an address.
+fn ends(stop: Stop, address: u32) -> Act
+    ensures { λ r. ⌜ r ≡ Ends (cause stop address) ⌝ }
+{
+    Act::Ends(Cause { stop, address })
+}
+
 // What the instruction i at pc asks for, over the registers x; next is pc plus its own length.
 pub fn decide(i: Inst, next: u32, pc: u32, x: &[u32; 31]) -> Act
     ensures { λ r. ⌜ r ≡ actOf i next pc (now (x .entry)) ⌝ }
@@ -78,8 +88,8 @@ pub fn decide(i: Inst, next: u32, pc: u32, x: &[u32; 31]) -> Act
         Inst::Shift(op, rd, rs1, shamt) => Act::Sets(rd, shift(op, read(x, rs1), shamt), next),
         Inst::Arith(op, rd, rs1, rs2) => Act::Sets(rd, arith(op, read(x, rs1), read(x, rs2)), next),
         Inst::Fence(_, _, _) => Act::Sets(Reg::ZERO, 0, next),
-        Inst::Ecall => Act::Ends(Stop::Ecall),
-        Inst::Ebreak => Act::Ends(Stop::Ebreak),
+        Inst::Ecall => ends(Stop::Ecall, 0),
+        Inst::Ebreak => ends(Stop::Ebreak, 0),
         Inst::MulDiv(op, rd, rs1, rs2) => Act::Sets(
             rd,
             mul_div(op, read(x, rs1), read(x, rs2)),

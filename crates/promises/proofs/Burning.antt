@@ -26,7 +26,7 @@ row-comes (sets rd v pc) = stays
 row-comes (loads o rd a pc v h) = stays
 row-comes (into-memory o v a pc i e h) = rw e stays
 row-comes (into-row o v a pc k e h z) = rw e (burning k v h z)
-row-comes (stops a why) = stays
+row-comes (stops a why by) = stays
 
 row-step : (w : World) → RowStep (w .board .row) (burns w) (stepped w .board .row)
 row-step w = walk w (λ c v. RowStep (w .board .row) (c && storesThere (asked w) (w .board)) (v .board .row)) (λ e. stays) (λ e d c. row-comes c)

@@ -12,5 +12,5 @@ equal-parts = (
   λ m n f g e. (ap (λ o. o .mem) e, ap (λ o. o .row) e),
   λ s t b c e. (ap (λ o. o .st) e, ap (λ o. o .board) e),
   λ b c m n e. (ap (λ o. o .board) e, ap (λ o. o .slots) e),
-  λ p q x y c d s t e. (ap (λ o. o .pc) e, ap (λ o. o .x) e, ap (λ o. o .count) e, ap (λ o. o .stop) e),
+  λ p q x y c d s t a b e. (ap (λ o. o .pc) e, ap (λ o. o .x) e, ap (λ o. o .count) e, ap (λ o. o .stop) e, ap (λ o. o .address) e),
 )

@@ -1,6 +1,6 @@
 -- A cut run ends as the uncut one. A record reads back as its state, whatever else its buffer has, and a step keeps all that the entries ask, so each piece starts where the piece before it ended and is accepted; runs add up. A slot that is left as it was read holds the same bytes.
 -- Assumes nothing.
-use mathlib.Core.Path.{_≡_, refl, sym, ap, ap₂, _∙_}
+use mathlib.Core.Path.{_≡_, refl, sym, ap, ap₂, subst, _∙_}
 use mathlib.Core.Bool.{Bool, true, false}
 use mathlib.Core.Logic.{_⊎_, inl, inr}
 use mathlib.Core.List.{List, [], _∷_}
@@ -19,6 +19,7 @@ use Rattle.answers.specs.declared.Refusal.the-variants as R
 use Rattle.answers.specs.declared.Check.{Check}
 use Rattle.answers.specs.declared.Check.the-variants.{Passed, Refused}
 use Rattle.word.specs.Bounds.{AllBelow}
+use Rattle.word.specs.Bits.{flag}
 use Rattle.word.proofs.Bools.{and-fails}
 use Rattle.octets.specs.Bytes.{load}
 use Rattle.state.specs.declared.State.{State}
@@ -33,13 +34,14 @@ use Rattle.machine.specs.declared.Ran.{Ran}
 use Rattle.machine.proofs.Entries.{run-accepted}
 use Rattle.machine.specs.Entries.{ranTo, runGiven, noRun, runEntry, ofRan}
 use Rattle.records.specs.Records.{recordOf, stateOf, recordSound}
-use Rattle.records.proofs.Records.{length-record, write-back, bytes-fit}
+use Rattle.records.proofs.Records.{length-record, record-sound, write-back, bytes-fit, old-record}
 use Rattle.slots.specs.Slots.{slotThere, slotAt, slotSet, writeChecked, writeEntry, ofWrite, readChecked, readTo, noRead, readEntry, ofReadBack}
-use Rattle.slots.proofs.Slots.{there-fits, slot-set-at, take-before, drop-after, slot-same, slot-bytes, ReadsWell, reads-well, same-record, SlotHolds, holds-set, read-held, write-passes, check-was, state-was, one-slot-there, one-slot-at}
+use Rattle.slots.proofs.Slots.{there-fits, slot-length, slot-set-at, take-before, drop-after, slot-same, slot-bytes, ReadsWell, reads-well, same-record, SlotHolds, holds-set, read-held, write-passes, check-was, state-was, one-slot-there, one-slot-at}
 use Rattle.resume.specs.declared.Resumed.{Resumed}
 use Rattle.resume.specs.declared.Resumed.the-variants as A
 use Rattle.resume.specs.Resuming.{Bench, bench, slotWorld, benchLeft, resumeChecked, resumeGiven, resumeEntry, ofResumed}
-use Rattle.promises.specs.Cuts.{Piece, SlotsThere, leftBy, readBack, cutRun, answers, total, manual, Cut, sumAnswered, RetiredAddsUp, slotStart, slotRun, SlotRunIsRun, slotRuns, answered, slotAnswers, added, SlotRunsAddUp, SlotRunAnswers, SlotsStay, RecordOfState, StateOfRecord, NoStateOfRecord, WritesItsSlot}
+use Rattle.promises.specs.Cuts.{Piece, SlotsThere, leftBy, readBack, cutRun, answers, total, manual, Cut, sumAnswered, RetiredAddsUp, slotStart, slotRun, SlotRunIsRun, slotRuns, answered, slotAnswers, added, SlotRunsAddUp, SlotRunAnswers, SlotsStay, RecordOfState, StateOfRecord, NoStateOfRecord, OldRecord, OldRecordsLoad, SlotStaysFormed, WritesItsSlot}
+use Rattle.promises.specs.Refusals.{RecordMalformed}
 use Rattle.promises.proofs.Refusals.{accepted-passes, slot-accepted-passes}
 use Rattle.promises.proofs.Steps.{no-budget, stays-stopped}
 
@@ -202,9 +204,9 @@ slots-stay b k h sb a q =
 -- ---- one slot
 
 pub record-of-state : RecordOfState
-record-of-state r b l h = write-back r l b (go (eqb (load 7 137 r) 0) refl)
+record-of-state r b l h = write-back r l b (go (eqb (load 3 137 r) 0) refl)
   where
-    go : (t : Bool) → eqb (load 7 137 r) 0 ≡ t → load 7 137 r ≡ 0
+    go : (t : Bool) → eqb (load 3 137 r) 0 ≡ t → load 3 137 r ≡ 0
     go true e = eqb-true _ _ e
     go false e = absurd (h (inr (eqb-false _ _ e)))
 
@@ -221,8 +223,34 @@ state-of-record s f h =
 pub no-state-of-record : NoStateOfRecord
 unfolding decided
 no-state-of-record r l h =
-    let f : recordSound r ≡ false = and-fails (wellFormed (stateOf r)) (eqb (load 7 137 r) 0) (malformed (stateOf r)) (eqb-false _ _, ne-eqb _ _) .1 h in
-    rw (one-slot-there r l, one-slot-at r l, f) (inr (lit< tt))
+    let f : recordSound r ≡ false = and-fails (wellFormed (stateOf r)) (eqb (load 3 137 r) 0) (malformed (stateOf r)) (eqb-false _ _, ne-eqb _ _) .1 h in
+    rw (one-slot-there r l, one-slot-at r l, f) (inr (inl (lit< tt)))
+
+sound-not-malformed : (r : List ℕ) → recordSound r ≡ true → RecordMalformed r → ⊥
+sound-not-malformed r e m =
+    omega (arith, ap flag (sym e ∙ and-fails (wellFormed (stateOf r)) (eqb (load 3 137 r) 0) (malformed (stateOf r)) (eqb-false _ _, ne-eqb _ _) .1 m))
+
+pub old-records-load : OldRecordsLoad
+unfolding decided
+old-records-load k slots t old =
+    let r : List ℕ = slotAt k slots in
+    let e = old-record r (slot-length k slots t) (old .pc-even) (old .stop-known) (old .rest-zero) in
+    let passes : readChecked k slots ≡ Passed = rw (t, e .0) in
+    (λ m. sound-not-malformed r (e .0) m, ap (λ c. ofReadBack (decided c (outcome (readTo (stateOf r)) tt) noRead tt .answer)) passes ∙ ap given (e .1))
+
+pub slot-stays-formed : SlotStaysFormed
+unfolding decided
+slot-stays-formed b k h f sb a m =
+    let c = slot-accepted-passes k h a in
+    let l = board-accepted (h .board) _ c in
+    let r : ReadsWell k (h .slots) = reads-well k (h .slots) (l .1) in
+    let w : World = slotWorld k h in
+    let g : Runnable w = ((bytes-fit (slotAt k (h .slots)) (slot-bytes k (h .slots) sb), r .formed), (f, l .0)) in
+    let v : Runnable (ran b w) = runnable-ran b w g in
+    let s : State = ran b w .st in
+    let held : slotAt k (resumeEntry b k h .lent .slots) ≡ recordOf s =
+    ap (λ d. slotAt k (resumed b k h d .lent .slots)) c ∙ slot-set-at k (recordOf s) (h .slots) (length-record s (v .0 .0 .x-length)) (there-fits k (h .slots) (r .there)) in
+    sound-not-malformed (recordOf s) (record-sound s (v .0 .0) (v .0 .1)) (subst RecordMalformed held m)
 
 pub writes-its-slot : WritesItsSlot
 unfolding decided

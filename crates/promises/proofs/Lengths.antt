@@ -8,6 +8,7 @@ use native.Mathlib.Omega.{arith}
 use lib.Dec.{eqb}
 use borrow.Author.Tests.{le-leb}
 use Rattle.answers.specs.Outcomes.{Outcome, outcome}
+use Rattle.answers.specs.Stops.{cause}
 use Rattle.answers.specs.declared.Stop.the-variants.{AlreadyBurnt}
 use Rattle.answers.proofs.Order.{apart}
 use Rattle.isa.specs.declared.Reg.{Reg}
@@ -43,20 +44,20 @@ nextAlone = record { value = false; next = true }
 abbrev onward : ℕ → Done → Done
 onward to d = outcome (endingAt to nextAlone (d .answer)) (d .lent)
 
-load-onward : (p : Place) (o : LoadOp) (rd : Reg) (m n : ℕ) (b : Board) → loadedFrom p o rd m b ≡ endingAt m nextAlone (loadedFrom p o rd n b)
+load-onward : (p : Place) (o : LoadOp) (rd : Reg) (a m n : ℕ) (b : Board) → loadedFrom p o rd a m b ≡ endingAt m nextAlone (loadedFrom p o rd a n b)
 unfolding loadedFrom
-load-onward (Memory i) o rd m n b = refl
-load-onward (Fuse k) o rd m n b = refl
-load-onward Misaligned o rd m n b = refl
-load-onward Outside o rd m n b = refl
+load-onward (Memory i) o rd a m n b = refl
+load-onward (Fuse k) o rd a m n b = refl
+load-onward Misaligned o rd a m n b = refl
+load-onward Outside o rd a m n b = refl
 
-store-onward : (p : Place) (o : StoreOp) (v m n : ℕ) (b : Board) → storedTo p o v m b ≡ onward m (storedTo p o v n b)
+store-onward : (p : Place) (o : StoreOp) (v a m n : ℕ) (b : Board) → storedTo p o v a m b ≡ onward m (storedTo p o v a n b)
 unfolding storedTo storedWord
-store-onward (Memory i) o v m n b = refl
-store-onward (Fuse k) o v m n b = go (eqb (markAt k (b .row)) 0)
+store-onward (Memory i) o v a m n b = refl
+store-onward (Fuse k) o v a m n b = go (eqb (markAt k (b .row)) 0)
   where
     word : Bool → ℕ → Outcome Effect (List ℕ)
-    word t to = cond t (outcome (onTo to) (burnt k v (b .row))) (outcome (Halt AlreadyBurnt) (b .row))
+    word t to = cond t (outcome (onTo to) (burnt k v (b .row))) (outcome (Halt (cause AlreadyBurnt a)) (b .row))
 
     done : Bool → ℕ → Done
     done t to = outcome (word t to .answer) (board (b .mem) (word t to .lent))
@@ -64,8 +65,8 @@ store-onward (Fuse k) o v m n b = go (eqb (markAt k (b .row)) 0)
     go : (t : Bool) → done t m ≡ onward m (done t n)
     go true = refl
     go false = refl
-store-onward Misaligned o v m n b = refl
-store-onward Outside o v m n b = refl
+store-onward Misaligned o v a m n b = refl
+store-onward Outside o v a m n b = refl
 
 branch-onward : (t : Bool) (to m n : ℕ) (b : Board)
     → outcome (Next x0 0 (cond t to m)) b ≡ outcome (endingAt m (record { value = false; next = not t }) (Next x0 0 (cond t to n))) b
@@ -82,9 +83,9 @@ length-only (Jal rd imm) m n pc x b = refl
 length-only (Jalr rd rs1 imm) m n pc x b = refl
 length-only (Branch o rs1 rs2 imm) m n pc x b = branch-onward (takes o (registerOf x rs1) (registerOf x rs2)) (sum pc imm) (sum pc m) (sum pc n) b
 length-only (Load o rd rs1 imm) m n pc x b =
-    ap (λ e. outcome e b) (load-onward (loadPlace o (sum (registerOf x rs1) imm) b) o rd (sum pc m) (sum pc n) b)
+    ap (λ e. outcome e b) (load-onward (loadPlace o (sum (registerOf x rs1) imm) b) o rd (sum (registerOf x rs1) imm) (sum pc m) (sum pc n) b)
 length-only (Store o rs1 rs2 imm) m n pc x b =
-    store-onward (storePlace o (sum (registerOf x rs1) imm) b) o (registerOf x rs2) (sum pc m) (sum pc n) b
+    store-onward (storePlace o (sum (registerOf x rs1) imm) b) o (registerOf x rs2) (sum (registerOf x rs1) imm) (sum pc m) (sum pc n) b
 length-only (Imm o rd rs1 imm) m n pc x b = refl
 length-only (Shift o rd rs1 shamt) m n pc x b = refl
 length-only (Arith o rd rs1 rs2) m n pc x b = refl

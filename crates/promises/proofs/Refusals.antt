@@ -51,7 +51,7 @@ read-rows : (k : ℕ) (slots : List ℕ) → Says (readChecked k slots) (readRow
 read-rows k slots =
     let r : List ℕ = slotAt k slots in
     then-row (slotThere k slots) R.Slot _ (no-slot k slots)
-    (then-row (recordSound r) R.State Passed (and-fails (wellFormed (stateOf r)) (eqb (load 7 137 r) 0) (malformed (stateOf r)) (eqb-false _ _, ne-eqb _ _)) no-rows)
+    (then-row (recordSound r) R.State Passed (and-fails (wellFormed (stateOf r)) (eqb (load 3 137 r) 0) (malformed (stateOf r)) (eqb-false _ _, ne-eqb _ _)) no-rows)
 
 resume-rows : (k : ℕ) (h : Bench) → Says (resumeChecked k h) (resumeRows k h)
 resume-rows k h = board-rows (h .board) (readChecked k (h .slots)) (read-rows k (h .slots))

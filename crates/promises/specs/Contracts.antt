@@ -22,4 +22,4 @@ EqualParts =
     × ((m n f g : List ℕ) → board m f ≡ board n g → (m ≡ n) × (f ≡ g))
     × ((s t : State) (b c : Board) → world s b ≡ world t c → (s ≡ t) × (b ≡ c))
     × ((b c : Board) (m n : List ℕ) → bench b m ≡ bench c n → (b ≡ c) × (m ≡ n))
-    × ((p q : ℕ) (x y : List ℕ) (c d s t : ℕ) → state p x c s ≡ state q y d t → (p ≡ q) × (x ≡ y) × (c ≡ d) × (s ≡ t))
+    × ((p q : ℕ) (x y : List ℕ) (c d s t a b : ℕ) → state p x c s a ≡ state q y d t b → (p ≡ q) × (x ≡ y) × (c ≡ d) × (s ≡ t) × (a ≡ b))

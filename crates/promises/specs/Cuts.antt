@@ -4,17 +4,19 @@ use mathlib.Core.Path.{_≡_}
 use mathlib.Core.Bool.{true, false}
 use mathlib.Core.Logic.{_⊎_}
 use mathlib.Core.List.{List, [], _∷_}
-use Prim.Native.Nat.{ℕ, _+_, _*_, _^_}
+use Prim.Native.Nat.{ℕ, _+_, _*_, _%_, _^_, _≤_}
 use lib.ListN.{length, take, drop}
 use Rattle.answers.specs.Answer.{Answer, given, refusedWith}
 use Rattle.answers.specs.Outcomes.{outcome}
 use Rattle.word.specs.Bounds.{AllBelow}
+use Rattle.octets.specs.Bytes.{load}
 use Rattle.state.specs.declared.State.{State}
 use Rattle.state.specs.Sizes.{Fits}
+use Rattle.state.specs.States.{state}
 use Rattle.boards.specs.Boards.{BoardFits}
 use Rattle.engine.specs.Steps.{World, world, Sized, paused, ran, retired}
 use Rattle.machine.specs.Entries.{runEntry, ofRan}
-use Rattle.records.specs.Records.{recordOf, stateOf}
+use Rattle.records.specs.Records.{ofWords, recordOf, stateOf}
 use Rattle.slots.specs.Slots.{slotThere, slotAt, writeEntry, ofWrite, readEntry, ofReadBack}
 use Rattle.resume.specs.Resuming.{Bench, bench, slotWorld, resumeEntry, ofResumed}
 use Rattle.resume.specs.declared.Resumed.the-variants.{Retired}
@@ -150,6 +152,26 @@ StateOfRecord = (s : State) → Fits s → (Malformed s → ⊥) → ofReadBack 
 -- one that is malformed reads as a state that is malformed, so that whatever takes a state refuses it with 5
 abbrev pub NoStateOfRecord : Type 0
 NoStateOfRecord = (r : List ℕ) → length r ≡ 144 → RecordMalformed r → Malformed (readEntry 0 r .answer .state)
+
+-- a record of the time when bytes 137 to 143 were all zero: an even pc, and a stop number of at most 10
+pub record OldRecord (r : List ℕ) : Type 0 where
+  pub pc-even : load 4 0 r % 2 ≡ 0
+  pub stop-known : load 1 136 r ≤ 10
+  pub rest-zero : load 7 137 r ≡ 0
+
+-- it is not malformed, and reads as the same state, its address 0
+abbrev pub OldRecordsLoad : Type 0
+OldRecordsLoad =
+    (k : ℕ) (slots : List ℕ) → slotThere k slots ≡ true → OldRecord (slotAt k slots)
+    → (RecordMalformed (slotAt k slots) → ⊥)
+    × (ofReadBack (readEntry k slots .answer)
+    ≡ given (state (load 4 0 (slotAt k slots)) (ofWords 31 (drop 4 (slotAt k slots))) (load 8 128 (slotAt k slots)) (load 1 136 (slotAt k slots)) 0))
+
+-- what an accepted run of a slot leaves there is not malformed
+abbrev pub SlotStaysFormed : Type 0
+SlotStaysFormed =
+    (b k : ℕ) (h : Bench) → BoardFits (h .board) → AllBelow (2 ^ 8) (h .slots) → SlotAccepted k h
+    → RecordMalformed (slotAt k (resumeEntry b k h .lent .slots)) → ⊥
 
 -- writing slot k changes only bytes 144k to 144k + 143, which are then the state's record
 abbrev pub WritesItsSlot : Type 0

@@ -6,7 +6,7 @@ use mathlib.Core.Logic.{_⊎_}
 use mathlib.Core.List.{List}
 use Prim.Native.Nat.{ℕ, _%_, _/_, _≤_, _<_}
 use lib.ListN.{length}
-use Rattle.answers.specs.Stops.{lastStop}
+use Rattle.answers.specs.Stops.{lastStop, HasNoAddress}
 use Rattle.answers.specs.Order.{refusal, noRefusal}
 use Rattle.answers.specs.Entries.{Refuses, Keeps, Silent}
 use Rattle.octets.specs.Bytes.{load}
@@ -37,13 +37,13 @@ RecordBreaks b = (k : ℕ) × (k < 64) × (keepsRules k (b .row) ≡ false)
 abbrev pub NoSlot : ℕ → List ℕ → Type 0
 NoSlot k slots = (length slots % 144 ≡ 0 → ⊥) ⊎ (length slots / 144 ≤ k)
 
--- 5: state malformed: an odd pc or a stop number above 10
+-- 5: state malformed: an odd pc, a stop number above 10, or an address that is not zero with a stop that has none
 abbrev pub Malformed : State → Type 0
-Malformed s = (s .pc % 2 ≡ 1) ⊎ (lastStop < s .stop)
+Malformed s = (s .pc % 2 ≡ 1) ⊎ (lastStop < s .stop) ⊎ (HasNoAddress (s .stop) × (s .address ≡ 0 → ⊥))
 
--- 5, on reading: its record's bytes 137 to 143 not zero
+-- 5, on reading: also its record's bytes 137 to 139 not zero
 abbrev pub RecordMalformed : List ℕ → Type 0
-RecordMalformed r = Malformed (stateOf r) ⊎ (load 7 137 r ≡ 0 → ⊥)
+RecordMalformed r = Malformed (stateOf r) ⊎ (load 3 137 r ≡ 0 → ⊥)
 
 -- ---- the order of the entries
 

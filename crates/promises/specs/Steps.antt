@@ -1,15 +1,22 @@
 -- Demand 2: each step of the code is the manual's step; and the paper's rules of a step and of a run.
 -- Each statement is proved in proofs/Steps.antt.
 use mathlib.Core.Path.{_≡_}
-use mathlib.Core.Bool.{true, false}
+use mathlib.Core.Bool.{true, false, cond}
 use mathlib.Core.Logic.{_↔_}
 use Prim.Native.Nat.{ℕ, _+_, _≤_}
-use Rattle.answers.specs.Stops.{lastStop}
+use lib.Dec.{leb}
+use lib.ListN.{length}
+use Rattle.answers.specs.Stops.{stopNumber}
 use Rattle.answers.specs.Answer.{given}
+use Rattle.answers.specs.declared.Stop.{Stop}
+use Rattle.answers.specs.declared.Stop.the-variants as S
+use Rattle.alu.specs.Arithmetic.{sum}
 use Rattle.state.specs.States.{state}
-use Rattle.engine.specs.Steps.{World, world, paused, stepped, completes, ran, retired}
+use Rattle.execute.specs.declared.Act.{Act}
+use Rattle.execute.specs.declared.Act.the-variants.{Sets, Loads, Stores, Ends}
+use Rattle.engine.specs.Steps.{World, world, Sized, asked, paused, stepped, completes, ran, retired}
 use Rattle.machine.specs.Entries.{stepEntry, ofStepped, runEntry, ofRan}
-use Rattle.promises.specs.Refusals.{machineRows}
+use Rattle.promises.specs.Refusals.{Malformed, machineRows}
 
 -- no row of the table holds
 abbrev pub Accepted : World → Type 0
@@ -27,11 +34,37 @@ RunIsManual =
 
 -- ---- the rules of a step and of a run
 
--- a step that stops changes only the stop number; pc stays on that instruction and nothing is counted
+-- the address that a load or a store accesses: a register plus an immediate, modulo 2 ^ 32, as `actOf` has it
+abbrev pub accessed : Act → ℕ
+accessed (Sets rd v next) = 0
+accessed (Loads o rd a next) = a
+accessed (Stores o v a next) = a
+accessed (Ends why) = 0
+
+-- the address that each stop has, in a step of w that asks for the act: for stop 3 the pc; for stop 4 that of the halfword that could not be fetched, which is the second one where the first was within memory; for stops 5 to 9 the address accessed; for the others zero
+abbrev pub addressFor : Stop → World → Act → ℕ
+addressFor S.Ecall w act = 0
+addressFor S.Ebreak w act = 0
+addressFor S.IllegalInstruction w act = w .st .pc
+addressFor S.FetchOutside w act = cond (leb (w .st .pc + 2) (length (w .board .mem))) (sum (w .st .pc) 2) (w .st .pc)
+addressFor S.LoadMisaligned w act = accessed act
+addressFor S.LoadOutside w act = accessed act
+addressFor S.StoreMisaligned w act = accessed act
+addressFor S.StoreOutside w act = accessed act
+addressFor S.AlreadyBurnt w act = accessed act
+addressFor S.CountFull w act = 0
+
+-- a step that stops sets the stop number and its address, and changes nothing else; pc stays on that instruction and nothing is counted
 abbrev pub StopsCleanly : Type 0
 StopsCleanly =
     (w : World) → paused w ≡ true → completes w ≡ false
-    → (n : ℕ) × (1 ≤ n) × (n ≤ lastStop) × (stepped w ≡ world (state (w .st .pc) (w .st .x) (w .st .count) n) (w .board))
+    → (why : Stop) × (stepped w ≡ world (state (w .st .pc) (w .st .x) (w .st .count) (stopNumber why) (addressFor why w (asked w))) (w .board))
+
+-- what an accepted step or run hands back is never malformed
+abbrev pub StaysFormed : Type 0
+StaysFormed =
+    (b : ℕ) (w : World) → Sized w → Accepted w
+    → (Malformed (stepEntry w .answer .state) → ⊥) × (Malformed (runEntry b w .answer .state) → ⊥)
 
 -- a step is a run of budget 1, refused or not: check, state and board
 abbrev pub StepIsRun : Type 0

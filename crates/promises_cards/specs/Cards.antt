@@ -29,21 +29,22 @@ use Rattle.machine.specs.Entries.{runEntry}
 use Rattle.machine.specs.declared.Ran.{Ran}
 use Rattle.promises_codes.specs.Instructions.{decodes, expands, shortens}
 
--- how a run ends: the number retired, the stop number, pc, and the mark and value of word 0 of the row
+-- how a run ends: the number retired, the stop number with its address, pc, and the mark and value of word 0 of the row
 pub record End : Type 0 where
   pub retired : ℕ
   pub stop : ℕ
+  pub address : ℕ
   pub pc : ℕ
   pub mark : ℕ
   pub value : ℕ
 
-abbrev pub end : ℕ → ℕ → ℕ → ℕ → ℕ → Answer End
-end retired stop pc mark value = given (record { retired = retired; stop = stop; pc = pc; mark = mark; value = value })
+abbrev pub end : ℕ → ℕ → ℕ → ℕ → ℕ → ℕ → Answer End
+end retired stop address pc mark value = given (record { retired = retired; stop = stop; address = address; pc = pc; mark = mark; value = value })
 
 abbrev pub endOf : Outcome Ran Board → Answer End
 endOf o =
     ofCheck (o .answer .check)
-    (record { retired = o .answer .retired; stop = o .answer .state .stop; pc = o .answer .state .pc; mark = markAt 0 (o .lent .row); value = valueAt 0 (o .lent .row) })
+    (record { retired = o .answer .retired; stop = o .answer .state .stop; address = o .answer .state .address; pc = o .answer .state .pc; mark = markAt 0 (o .lent .row); value = valueAt 0 (o .lent .row) })
 
 -- a recipe's image started on a row
 abbrev pub start : List ℕ → List ℕ → World
@@ -112,11 +113,11 @@ cards =
     ∷ (
       10,
       long 0x003080E7 (given (Jalr ra ra 3))
-          ∷ steps (world (state 0x20 (0x10 ∷ replicate 30 0) 0 0) (board jalrAt blank)) (world (state 0x12 (0x24 ∷ replicate 30 0) 1 0) (board jalrAt blank))
+          ∷ steps (world (state 0x20 (0x10 ∷ replicate 30 0) 0 0 0) (board jalrAt blank)) (world (state 0x12 (0x24 ∷ replicate 30 0) 1 0 0) (board jalrAt blank))
           ∷ [],
     )
-    ∷ (11, runs image blank 100 (end 3 1 10 1 7) ∷ runs image blank 3 (end 3 0 10 1 7) ∷ [])
-    ∷ (12, runs image spent 100 (end 2 9 6 1 7) ∷ [])
+    ∷ (11, runs image blank 100 (end 3 1 0 10 1 7) ∷ runs image blank 3 (end 3 0 0 10 1 7) ∷ [])
+    ∷ (12, runs image spent 100 (end 2 9 0x80000000 6 1 7) ∷ [])
     ∷ []
 
 -- the claim: every fact of every card holds

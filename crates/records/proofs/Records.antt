@@ -4,6 +4,7 @@ use native.Mathlib.Nat.{mod-eq-of-lt}
 use native.Mathlib.Numerals.{add-one}
 use native.Mathlib.Omega.{arith}
 use mathlib.Core.Path.{_≡_, refl, sym, ap, _∙_}
+use mathlib.Core.Bool.{true}
 use mathlib.Core.List.{List, [], _∷_, _++_, append-assoc, append-nil}
 use lib.ListN.{length, take, drop, getD, set, length-append, length-take, length-drop}
 use lib.Seq.{take-at, drop-at, take-suc, take-all, take-suc-set, drop-drop, take-add}
@@ -12,8 +13,11 @@ use Rattle.octets.proofs.Bytes.{length-le, length-store, of-le, load-one, load-
 use Rattle.state.specs.declared.State.{State}
 use Rattle.word.specs.Bounds.{AllBelow}
 use Rattle.state.specs.Sizes.{Fits}
+use Rattle.state.specs.States.{state, wellFormed}
+use Rattle.state.proofs.Laws.{formed-nowhere}
+use Rattle.answers.specs.Stops.{lastStop}
 use Rattle.word.proofs.Bounds.{below-drop}
-use Rattle.records.specs.Records.{words, ofWords, recordOf, stateOf}
+use Rattle.records.specs.Records.{words, ofWords, recordOf, stateOf, recordSound}
 
 -- ---- writing
 
@@ -45,22 +49,26 @@ write-turn p x i m m′ hx hm e e′ =
     (e′, k, take-store 4 (4 + 4 * i) (getD x i 0) m (omega arith), e, add-one, take-suc x i 0 hx, words-append, words-one)
     (simp append-assoc)
 
--- a byte as eight: seven zeros follow it
-byte-as-eight : (v : ℕ) → v < 256 → littleEndian 8 v ≡ littleEndian 1 v ++ littleEndian 7 0
+-- a byte as four: three zeros follow it
+byte-as-four : (v : ℕ) → v < 256 → littleEndian 4 v ≡ littleEndian 1 v ++ littleEndian 3 0
 unfolding littleEndian
-byte-as-eight v h = let e : v / 256 ≡ 0 = omega arith in ap (λ (q : ℕ). v % 256 ∷ littleEndian 7 q) e
+byte-as-four v h = let e : v / 256 ≡ 0 = omega arith in ap (λ (q : ℕ). v % 256 ∷ littleEndian 3 q) e
 
--- the two numbers that follow the words
-pub write-done : (p x : List ℕ) (r q i : ℕ) (m m₁ m₂ : List ℕ) → length x ≡ 31 → i ≡ 31 → length m ≡ 144 → q < 256
-    → take (4 + 4 * i) m ≡ p ++ words (take i x) → m₁ ≡ store 8 128 r m → m₂ ≡ store 8 136 q m₁
-    → m₂ ≡ p ++ words x ++ littleEndian 8 r ++ littleEndian 1 q ++ littleEndian 7 0
-write-done p x r q i m m₁ m₂ hx hi hm hq e e₁ e₂ =
+-- the three numbers that follow the words
+pub write-done : (p x : List ℕ) (r q a i : ℕ) (m m₁ m₂ m₃ : List ℕ) → length x ≡ 31 → i ≡ 31 → length m ≡ 144 → q < 256
+    → take (4 + 4 * i) m ≡ p ++ words (take i x) → m₁ ≡ store 8 128 r m → m₂ ≡ store 4 136 q m₁ → m₃ ≡ store 4 140 a m₂
+    → m₃ ≡ p ++ words x ++ littleEndian 8 r ++ littleEndian 1 q ++ littleEndian 3 0 ++ littleEndian 4 a
+write-done p x r q a i m m₁ m₂ m₃ hx hi hm hq e e₁ e₂ e₃ =
     let l₁ : length m₁ ≡ 144 = ap length e₁ ∙ length-store 8 128 r m (omega arith) ∙ hm in
-    let l₂ : length m₂ ≡ 144 = ap length e₂ ∙ length-store 8 136 q m₁ (omega arith) ∙ l₁ in
+    let l₂ : length m₂ ≡ 144 = ap length e₂ ∙ length-store 4 136 q m₁ (omega arith) ∙ l₁ in
+    let l₃ : length m₃ ≡ 144 = ap length e₃ ∙ length-store 4 140 a m₂ (omega arith) ∙ l₂ in
     let t : take 128 m ≡ p ++ words x = rw (hi, take-all 31 x (omega arith)) at e in
     let t₁ : take 136 m₁ ≡ p ++ words x ++ littleEndian 8 r = rw (e₁, ← t) (take-store 8 128 r m (omega arith)) in
-    let t₂ : take 144 m₂ ≡ take 136 m₁ ++ littleEndian 8 q = rw e₂ (take-store 8 136 q m₁ (omega arith)) in
-    sym (take-all 144 m₂ (omega arith)) ∙ t₂ ∙ (rw (t₁, byte-as-eight q hq) (sym (append-assoc (p ++ words x ++ littleEndian 8 r) (littleEndian 1 q) (littleEndian 7 0))))
+    let s₂ : take 140 m₂ ≡ take 136 m₁ ++ littleEndian 4 q = rw e₂ (take-store 4 136 q m₁ (omega arith)) in
+    let t₂ : take 140 m₂ ≡ p ++ words x ++ littleEndian 8 r ++ littleEndian 1 q ++ littleEndian 3 0 =
+    s₂ ∙ (rw (t₁, byte-as-four q hq) (sym (append-assoc (p ++ words x ++ littleEndian 8 r) (littleEndian 1 q) (littleEndian 3 0)))) in
+    let t₃ : take 144 m₃ ≡ take 140 m₂ ++ littleEndian 4 a = rw e₃ (take-store 4 140 a m₂ (omega arith)) in
+    sym (take-all 144 m₃ (omega arith)) ∙ t₃ ∙ (rw t₂)
 
 -- ---- reading
 
@@ -80,9 +88,9 @@ pub read-turn : (m x : List ℕ) (i v : ℕ) → i < length x → take i x ≡ o
     → take (i + 1) (set x i v) ≡ ofWords (i + 1) (drop 4 m)
 read-turn m x i v hx e e′ = rw (add-one, take-suc-set x i v hx, of-words-suc, load-past, e, e′)
 
--- the seven bytes that follow the stop number
-pub after-stop : (m : List ℕ) → 144 ≤ length m → getD m 136 0 < 256 → load 8 136 m / 256 ≡ load 7 137 m
-after-stop m h b = omega (arith, load-add 1 7 136 m (omega arith), load-one 136 m (omega arith))
+-- the three bytes that follow the stop number
+pub after-stop : (m : List ℕ) → 144 ≤ length m → getD m 136 0 < 256 → load 4 136 m / 256 ≡ load 3 137 m
+after-stop m h b = omega (arith, load-add 1 3 136 m (omega arith), load-one 136 m (omega arith))
 
 -- ---- a record reads back
 
@@ -113,12 +121,12 @@ module _ (s : State) (l : length (s .x) ≡ 31) where
   unfolding recordOf
   length-record = let w = length-words-31 in simp (length-append, length-le) (omega arith)
 
-  pub rest-zero : load 7 137 (recordOf s) ≡ 0
+  pub rest-zero : load 3 137 (recordOf s) ≡ 0
   unfolding recordOf
   rest-zero =
       let w = length-words-31 in
       let p : List ℕ = littleEndian 4 (s .pc) ++ words (s .x) ++ littleEndian 8 (s .count) ++ littleEndian 1 (s .stop) in
-      ap (load 7 137) (sym (append-nil (p ++ littleEndian 7 0))) ∙ load-among 7 137 0 p [] (simp (length-append, length-le) (omega arith))
+      load-among 3 137 0 p (littleEndian 4 (s .address)) (simp (length-append, length-le) (omega arith))
 
 pub read-back : (s : State) → Fits s → stateOf (recordOf s) ≡ s
 unfolding stateOf recordOf
@@ -127,20 +135,30 @@ read-back s h =
     let w = words (s .x) in
     let r = littleEndian 8 (s .count) in
     let q = littleEndian 1 (s .stop) in
-    let z = littleEndian 7 0 in
+    let z = littleEndian 3 0 in
+    let d = littleEndian 4 (s .address) in
     let lw = length-words-31 s (h .x-length) in
-    let pc-first : a ++ w ++ r ++ q ++ z ≡ a ++ (w ++ (r ++ (q ++ z))) = simp append-assoc in
-    let count-next : a ++ w ++ r ++ q ++ z ≡ a ++ w ++ r ++ (q ++ z) = append-assoc (a ++ w ++ r) q z in
-    let pc : load 4 0 (a ++ w ++ r ++ q ++ z) ≡ s .pc =
-    ap (load 4 0) pc-first ∙ load-among 4 0 (s .pc) [] (w ++ (r ++ (q ++ z))) refl ∙ mod-eq-of-lt (h .pc-fits) in
-    let x : ofWords 31 (drop 4 (a ++ w ++ r ++ q ++ z)) ≡ s .x =
-    rw (pc-first, drop-at a (w ++ (r ++ (q ++ z))) 4 (length-le 4 (s .pc)), ← (h .x-length)) (words-back (s .x) (r ++ (q ++ z)) (h .x-fits)) in
-    let count : load 8 128 (a ++ w ++ r ++ q ++ z) ≡ s .count =
-    ap (load 8 128) count-next ∙ load-among 8 128 (s .count) (a ++ w) (q ++ z) (simp (length-append, length-le) (omega arith))
+    let all = a ++ w ++ r ++ q ++ z ++ d in
+    let pc-first : all ≡ a ++ (w ++ (r ++ (q ++ (z ++ d)))) = simp append-assoc in
+    let count-next : all ≡ a ++ w ++ r ++ (q ++ (z ++ d)) = simp append-assoc in
+    let stop-next : all ≡ a ++ w ++ r ++ q ++ (z ++ d) = append-assoc (a ++ w ++ r ++ q) z d in
+    let pc : load 4 0 all ≡ s .pc = ap (load 4 0) pc-first ∙ load-among 4 0 (s .pc) [] (w ++ (r ++ (q ++ (z ++ d)))) refl ∙ mod-eq-of-lt (h .pc-fits) in
+    let x : ofWords 31 (drop 4 all) ≡ s .x =
+    rw (pc-first, drop-at a (w ++ (r ++ (q ++ (z ++ d)))) 4 (length-le 4 (s .pc)), ← (h .x-length)) (words-back (s .x) (r ++ (q ++ (z ++ d))) (h .x-fits)) in
+    let count : load 8 128 all ≡ s .count =
+    ap (load 8 128) count-next ∙ load-among 8 128 (s .count) (a ++ w) (q ++ (z ++ d)) (simp (length-append, length-le) (omega arith))
     ∙ mod-eq-of-lt (h .count-fits) in
-    let stop : load 1 136 (a ++ w ++ r ++ q ++ z) ≡ s .stop =
-    load-among 1 136 (s .stop) (a ++ w ++ r) z (simp (length-append, length-le) (omega arith)) ∙ mod-eq-of-lt (h .stop-fits) in
-    rw (pc, x, count, stop)
+    let stop : load 1 136 all ≡ s .stop =
+    ap (load 1 136) stop-next ∙ load-among 1 136 (s .stop) (a ++ w ++ r) (z ++ d) (simp (length-append, length-le) (omega arith))
+    ∙ mod-eq-of-lt (h .stop-fits) in
+    let address : load 4 140 all ≡ s .address =
+    ap (load 4 140) (sym (append-nil all)) ∙ load-among 4 140 (s .address) (a ++ w ++ r ++ q ++ z) [] (simp (length-append, length-le) (omega arith))
+    ∙ mod-eq-of-lt (h .address-fits) in
+    rw (pc, x, count, stop, address)
+
+-- it is sound where its state is well-formed
+pub record-sound : (s : State) → Fits s → wellFormed s ≡ true → recordSound (recordOf s) ≡ true
+record-sound s h w = rw (read-back s h, w, rest-zero s (h .x-length))
 
 -- ---- bytes read and written back
 
@@ -165,11 +183,11 @@ of-words-back (suc n) m h b =
     let k : 4 * suc n ≡ 4 + 4 * n = omega arith in
     rw (k, take-add 4 (4 * n) m, le-of 4 m (omega arith) b, of-words-back n (drop 4 m) (rw length-drop (omega arith)) (below-drop (2 ^ 8) 4 m b))
 
--- 144 bytes whose last seven are zero are the record of the state that they say
-pub write-back : (m : List ℕ) → length m ≡ 144 → AllBelow (2 ^ 8) m → load 7 137 m ≡ 0 → recordOf (stateOf m) ≡ m
+-- 144 bytes of which 137 to 139 are zero are the record of the state that they say
+pub write-back : (m : List ℕ) → length m ≡ 144 → AllBelow (2 ^ 8) m → load 3 137 m ≡ 0 → recordOf (stateOf m) ≡ m
 unfolding recordOf stateOf
 write-back m l b z =
-    let rest : littleEndian 7 0 ≡ take 7 (drop 137 m) = ap (littleEndian 7) (sym z) ∙ bytes-back 7 137 m (omega arith) b in
+    let rest : littleEndian 3 0 ≡ take 3 (drop 137 m) = ap (littleEndian 3) (sym z) ∙ bytes-back 3 137 m (omega arith) b in
     let joined : (a n : ℕ) → take a m ++ take n (drop a m) ≡ take (a + n) m = λ a n. sym (take-add a n m) in
     rw (
       bytes-back 4 0 m (omega arith) b,
@@ -177,10 +195,12 @@ write-back m l b z =
       bytes-back 8 128 m (omega arith) b,
       bytes-back 1 136 m (omega arith) b,
       rest,
+      bytes-back 4 140 m (omega arith) b,
       joined 4 124,
       joined 128 8,
       joined 136 1,
-      joined 137 7,
+      joined 137 3,
+      joined 140 4,
     )
     (take-all 144 m (omega arith))
 
@@ -204,4 +224,18 @@ bytes-fit m h = record {
   x-fits = of-words-below 31 (drop 4 m) (below-drop (2 ^ 8) 4 m h);
   count-fits = load-lt 8 128 m h;
   stop-fits = load-lt 1 136 m h;
+  address-fits = load-lt 4 140 m h;
 }
+
+-- ---- records whose bytes 137 to 143 are all zero
+
+pub old-record : (m : List ℕ) → length m ≡ 144 → load 4 0 m % 2 ≡ 0 → load 1 136 m ≤ lastStop → load 7 137 m ≡ 0
+    → (recordSound m ≡ true) × (stateOf m ≡ state (load 4 0 m) (ofWords 31 (drop 4 m)) (load 8 128 m) (load 1 136 m) 0)
+unfolding stateOf
+old-record m l even known z =
+    let sum = load-add 3 4 137 m (omega arith) in
+    let address : load 4 140 m ≡ 0 = omega arith in
+    let rest : load 3 137 m ≡ 0 = omega arith in (
+      rw (formed-nowhere (stateOf m) even known address, rest),
+      ap (λ a. state (load 4 0 m) (ofWords 31 (drop 4 m)) (load 8 128 m) (load 1 136 m) a) address,
+    )

@@ -1,4 +1,4 @@
--- A state's record of 144 bytes: 0 to 3 pc, 4 to 127 x1 to x31, 128 to 135 the retired count, 136 the stop number, 137 to 143 zero; all little-endian.
+-- A state's record of 144 bytes: 0 to 3 pc, 4 to 127 x1 to x31, 128 to 135 the retired count, 136 the stop number, 137 to 139 zero, 140 to 143 the address; all little-endian.
 use Prim.Native.Nat.{ℕ, zero, suc}
 use mathlib.Core.Bool.{Bool, _&&_}
 use mathlib.Core.List.{List, [], _∷_, _++_}
@@ -19,11 +19,11 @@ ofWords zero m = []
 ofWords (suc n) m = ofLittleEndian (take 4 m) ∷ ofWords n (drop 4 m)
 
 unfoldable pub recordOf : State → List ℕ
-recordOf s = littleEndian 4 (s .pc) ++ words (s .x) ++ littleEndian 8 (s .count) ++ littleEndian 1 (s .stop) ++ littleEndian 7 0
+recordOf s = littleEndian 4 (s .pc) ++ words (s .x) ++ littleEndian 8 (s .count) ++ littleEndian 1 (s .stop) ++ littleEndian 3 0 ++ littleEndian 4 (s .address)
 
 unfoldable pub stateOf : List ℕ → State
-stateOf m = state (load 4 0 m) (ofWords 31 (drop 4 m)) (load 8 128 m) (load 1 136 m)
+stateOf m = state (load 4 0 m) (ofWords 31 (drop 4 m)) (load 8 128 m) (load 1 136 m) (load 4 140 m)
 
--- the record's state is well-formed, and its bytes 137 to 143 are zero
+-- the record's state is well-formed, and its bytes 137 to 139 are zero
 abbrev pub recordSound : List ℕ → Bool
-recordSound m = wellFormed (stateOf m) && eqb (load 7 137 m) 0
+recordSound m = wellFormed (stateOf m) && eqb (load 3 137 m) 0

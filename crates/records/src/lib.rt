@@ -21,8 +21,9 @@ pub fn write_record(part: &mut [u8], s: State)
         i += 1;
     }
     store8(part, 128, s.count);
-    // the stop number, and seven zeros after it
-    store8(part, 136, s.stop as u64);
+    // the stop number, and three zeros after it
+    store4(part, 136, s.stop as u32);
+    store4(part, 140, s.address);
 }
 
 pub fn read_record(part: &[u8]) -> State
@@ -38,13 +39,20 @@ pub fn read_record(part: &[u8]) -> State
     let pc = load4(part, 0);
     let count = load8(part, 128);
     let stop = part[136];
-    State { pc, x, count, stop }
+    let address = load4(part, 140);
+    State {
+        pc,
+        x,
+        count,
+        stop,
+        address,
+    }
 }
 
-// Whether the record is one that may be read: a well-formed state, and zeros after it.
+// Whether the record is one that may be read: a well-formed state, and zeros after its stop number.
 pub fn is_sound(part: &[u8]) -> bool
     requires { ⌜ length (now part) ≡ 144 ⌝ }
     ensures { λ r. ⌜ r ≡ recordSound (now (part .entry)) ⌝ }
 {
-    read_record(part).is_well_formed() & (load8(part, 136) / 256 == 0)
+    read_record(part).is_well_formed() & (load4(part, 136) / 256 == 0)
 }

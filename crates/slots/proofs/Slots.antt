@@ -82,24 +82,26 @@ module _ (r : List ℕ) (l : length r ≡ 144) where
 pub no-slot : (k : ℕ) (slots : List ℕ) → (slotThere k slots ≡ false) ↔ ((length slots % 144 ≡ 0 → ⊥) ⊎ (length slots / 144 ≤ k))
 no-slot k slots = and-fails (eqb (length slots % 144) 0) (ltb k (length slots / 144)) (eqb-false _ _, ne-eqb _ _) (ltb-false _ _, le-ltb _ _)
 
--- a slot that reads well is there, its state well-formed, and its bytes 137 to 143 zero
+-- a slot that reads well is there, its state well-formed, and its bytes 137 to 139 zero
 pub record ReadsWell (k : ℕ) (slots : List ℕ) : Type 0 where
   pub there : slotThere k slots ≡ true
   pub formed : wellFormed (stateOf (slotAt k slots)) ≡ true
-  pub rest : load 7 137 (slotAt k slots) ≡ 0
+  pub rest : load 3 137 (slotAt k slots) ≡ 0
 
 pub reads-well : (k : ℕ) (slots : List ℕ) → readChecked k slots ≡ Passed → ReadsWell k slots
 reads-well k slots e =
     let part : List ℕ = slotAt k slots in
     let t = both-passed (slotThere k slots) R.Slot _ e in
-    let s = and-eq-true-iff (wellFormed (stateOf part)) (eqb (load 7 137 part) 0) .0 (both-passed (recordSound part) R.State Passed (t .1) .0) in
+    let s = and-eq-true-iff (wellFormed (stateOf part)) (eqb (load 3 137 part) 0) .0 (both-passed (recordSound part) R.State Passed (t .1) .0) in
     record { there = t .0; formed = s .0; rest = eqb-true _ _ (s .1) }
+
+pub slot-length : (k : ℕ) (slots : List ℕ) → slotThere k slots ≡ true → length (slotAt k slots) ≡ 144
+slot-length k slots t = let fits = there-fits k slots t in length-take-le 144 (drop (144 * k) slots) (rw length-drop (omega arith))
 
 -- its bytes are the record of its state
 pub same-record : (k : ℕ) (slots : List ℕ) → AllBelow (2 ^ 8) slots → ReadsWell k slots → recordOf (stateOf (slotAt k slots)) ≡ slotAt k slots
 same-record k slots b r =
-    let fits = there-fits k slots (r .there) in
-    write-back (slotAt k slots) (length-take-le 144 (drop (144 * k) slots) (rw length-drop (omega arith))) (slot-bytes k slots b) (r .rest)
+    write-back (slotAt k slots) (slot-length k slots (r .there)) (slot-bytes k slots b) (r .rest)
 
 -- ---- slot k holds the record of s
 

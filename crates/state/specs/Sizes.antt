@@ -11,3 +11,4 @@ pub record Fits (s : State) : Type 0 where
   pub x-fits : AllBelow (2 ^ 32) (s .x)
   pub count-fits : s .count < 2 ^ 64
   pub stop-fits : s .stop < 2 ^ 8
+  pub address-fits : s .address < 2 ^ 32

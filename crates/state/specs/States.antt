@@ -1,20 +1,20 @@
--- A state: pc, x1 to x31, the retired count and a stop number.
+-- A state: pc, x1 to x31, the retired count, a stop number and the address that belongs to the stop.
 use Prim.Native.Nat.{ℕ, _+_, _-_, _%_}
-use mathlib.Core.Bool.{Bool, cond, _&&_}
+use mathlib.Core.Bool.{Bool, cond, _&&_, _||_}
 use mathlib.Core.List.{List}
 use lib.ListN.{getD, set, replicate}
 use lib.Dec.{eqb, leb}
 use Rattle.answers.specs.Checks.{unless}
-use Rattle.answers.specs.Stops.{stopNumber, lastStop}
+use Rattle.answers.specs.Stops.{stopNumber, lastStop, located}
+use Rattle.answers.specs.declared.Cause.{Cause}
 use Rattle.answers.specs.declared.Check.{Check}
 use Rattle.answers.specs.declared.Check.the-variants.{Passed}
 use Rattle.answers.specs.declared.Refusal.the-variants as R
-use Rattle.answers.specs.declared.Stop.{Stop}
 use Rattle.isa.specs.declared.Reg.{Reg}
 use Rattle.state.specs.declared.State.{State}
 
-abbrev pub state : ℕ → List ℕ → ℕ → ℕ → State
-state pc x count stop = record { pc = pc; x = x; count = count; stop = stop }
+abbrev pub state : ℕ → List ℕ → ℕ → ℕ → ℕ → State
+state pc x count stop address = record { pc = pc; x = x; count = count; stop = stop; address = address }
 
 -- the registers x1 to x31; x0 reads 0
 abbrev pub registerOf : List ℕ → Reg → ℕ
@@ -25,27 +25,27 @@ abbrev pub registerSet : Reg → ℕ → List ℕ → List ℕ
 registerSet r v x = cond (eqb (r .number) 0) x (set x (r .number - 1) v)
 
 abbrev pub written : Reg → ℕ → State → State
-written r v s = state (s .pc) (registerSet r v (s .x)) (s .count) (s .stop)
+written r v s = state (s .pc) (registerSet r v (s .x)) (s .count) (s .stop) (s .address)
 
 -- a completed step: the next is at pc, and the count is one more
 abbrev pub advanced : ℕ → State → State
-advanced pc s = state pc (s .x) (s .count + 1) (s .stop)
+advanced pc s = state pc (s .x) (s .count + 1) (s .stop) (s .address)
 
--- a step that stops changes only the stop number
-abbrev pub halted : Stop → State → State
-halted why s = state (s .pc) (s .x) (s .count) (stopNumber why)
+-- a step that stops sets the stop number and the address, and changes nothing else
+abbrev pub halted : Cause → State → State
+halted why s = state (s .pc) (s .x) (s .count) (stopNumber (why .stop)) (why .address)
 
 -- the start of a recipe: all zero
 abbrev pub fresh : State
-fresh = state 0 (replicate 31 0) 0 0
+fresh = state 0 (replicate 31 0) 0 0 0
 
 -- what stands in an answer in the place of a state where there is none: its stop number is 255, so that it is malformed and refused wherever it is used
 abbrev pub noState : State
-noState = state 0 (replicate 31 0) 0 255
+noState = state 0 (replicate 31 0) 0 255 0
 
--- a state with an odd pc or a stop number above 10 is malformed
+-- an odd pc, a stop number above 10, or something in the address where the stop has none: malformed
 abbrev pub wellFormed : State → Bool
-wellFormed s = eqb (s .pc % 2) 0 && leb (s .stop) lastStop
+wellFormed s = eqb (s .pc % 2) 0 && (leb (s .stop) lastStop && (located (s .stop) || eqb (s .address) 0))
 
 -- refusal 5
 abbrev pub stateChecked : State → Check

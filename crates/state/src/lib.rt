@@ -1,5 +1,5 @@
 // The state of a recipe's run, by value.
-use answers::Stop;
+use answers::Cause;
 use isa::Reg;
 ghost use mathlib.Core.Path.{_≡_};
 ghost use mathlib.Core.Bool.{cond};
@@ -15,6 +15,8 @@ pub struct State {
     pub count: u64,
     // a stop number; a state may be malformed, so any
     pub stop: u8,
+    // where it stopped; 0 where no address belongs to the stop
+    pub address: u32,
 }
 
 // An element; past the last there is 0.
@@ -68,6 +70,7 @@ impl State {
             x: [0; 31],
             count: 0,
             stop: 0,
+            address: 0,
         }
     }
 
@@ -80,6 +83,7 @@ impl State {
             x: [0; 31],
             count: 0,
             stop: 255,
+            address: 0,
         }
     }
 
@@ -94,6 +98,7 @@ impl State {
             x,
             count: self.count,
             stop: self.stop,
+            address: self.address,
         }
     }
 
@@ -108,25 +113,29 @@ impl State {
             x,
             count: self.count + 1,
             stop: self.stop,
+            address: self.address,
         }
     }
 
-    // A step stops, and changes nothing else.
-    pub fn halt(self, why: Stop) -> State
+    // A step stops, and changes nothing but the stop and its address.
+    pub fn halt(self, why: Cause) -> State
         ensures { λ s. ⌜ s ≡ halted why self ⌝ }
     {
         let x = self.x;
+        let stop = why.stop;
         State {
             pc: self.pc,
             x,
             count: self.count,
-            stop: why.number(),
+            stop: stop.number(),
+            address: why.address,
         }
     }
 
     pub fn is_well_formed(self) -> bool
         ensures { λ r. ⌜ r ≡ wellFormed self ⌝ }
     {
-        (self.pc % 2 == 0) & (self.stop <= 10)
+        let located = (3 <= self.stop) & (self.stop <= 9);
+        (self.pc % 2 == 0) & ((self.stop <= 10) & (located | (self.address == 0)))
     }
 }

@@ -1,6 +1,6 @@
 -- Tests that hold together, what a test picks, and a test as a number. Assumes nothing.
 use mathlib.Core.Path.{_≡_, refl}
-use mathlib.Core.Bool.{Bool, true, false, cond, _&&_}
+use mathlib.Core.Bool.{Bool, true, false, cond, _&&_, _||_}
 use mathlib.Core.Logic.{_↔_, _⊎_, inl, inr, ⊎-elim}
 use Prim.Native.Nat.{ℕ, _<_, _≤_}
 use borrow.Author.Tests.{ltb-true, ltb-false}
@@ -40,6 +40,11 @@ second false b e = cc
 pub and-fails : (a b : Bool) {P Q : Type 0} → (a ≡ false) ↔ P → (b ≡ false) ↔ Q → ((a && b) ≡ false) ↔ (P ⊎ Q)
 and-fails true b p q = (λ e. inr (q .0 e), λ s. ⊎-elim (λ h. let z = p .1 h in cc) (λ h. q .1 h) s)
 and-fails false b p q = (λ e. inl (p .0 refl), λ s. refl)
+
+-- one of two tests holds unless both fail
+pub or-fails : (a b : Bool) → (a || b) ≡ false → (a ≡ false) × (b ≡ false)
+or-fails true b e = (cc, cc)
+or-fails false b e = (refl, e)
 
 pub flag-le : (t : Bool) → flag t ≤ 1
 flag-le true = omega arith

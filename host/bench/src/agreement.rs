@@ -93,7 +93,8 @@ fn plain_state(s: &State) -> plain::State {
     }
 }
 
-/// Runs both and compares everything they leave; the stop number and the number retired.
+/// Runs both and compares everything they leave, but for the address of a stop, which the plain one
+/// does not keep; the stop number and the number retired.
 fn compare(mut s: State, memory: &[u8], row: &[u8], budget: u64) -> (u8, u64) {
     let (mut memory_a, mut row_a) = (memory.to_vec(), row.to_vec());
     let (mut memory_b, mut row_b) = (memory.to_vec(), row.to_vec());

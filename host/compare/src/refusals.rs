@@ -1,7 +1,7 @@
 //! Malformed inputs: for each entry every set of faults that it can meet, so that the order of
 //! refusals is compared. The paper's answer is known beforehand: the lowest number.
 
-use crate::scene::{self, Entry, Scene};
+use crate::scene::{self, Entry, Scene, ADDRESS, STOP, ZERO};
 use crate::tally::{Check, Difference, Tally};
 use crate::{program, texts, words};
 use phuyurik::Argument::{self, Memory, Row, Slots, State};
@@ -71,10 +71,10 @@ fn spoil_row_record(random: &mut Random, row: &mut [u8]) {
     let record = &mut row[place..place + 8];
     match random.below(3) {
         0 => record[4] = random.length(2, 255) as u8,
-        1 => record[random.length(5, 7)] = random.length(1, 255) as u8,
+        1 => record[random.length(5, 7)] = not_zero(random),
         _ => {
             record[4] = 0;
-            record[random.length(0, 3)] = random.length(1, 255) as u8;
+            record[random.length(0, 3)] = not_zero(random);
         }
     }
 }
@@ -98,10 +98,15 @@ fn spoil_slots(random: &mut Random, scene: &mut Scene) {
 }
 
 fn spoil_state(random: &mut Random, scene: &mut Scene) {
-    match random.below(3) {
-        0 => scene.state.pc |= 1,
-        1 => scene.state.stop = no_stop(random),
-        _ => scene.state.zero[random.length(0, 6)] = random.length(1, 255) as u8,
+    let state = &mut scene.state;
+    match random.below(4) {
+        0 => state.pc |= 1,
+        1 => state.stop = no_stop(random),
+        2 => state.zero[random.length(0, 2)] = not_zero(random),
+        _ => {
+            state.stop = stop_without_address(random);
+            state.address = u32::from(not_zero(random)) << (8 * random.below(4));
+        }
     }
 }
 
@@ -109,11 +114,24 @@ fn no_stop(random: &mut Random) -> u8 {
     random.length(Stop::ALL.len(), 255) as u8
 }
 
+/// Paused, ecall, ebreak and count full.
+fn stop_without_address(random: &mut Random) -> u8 {
+    random.pick(&[0, 1, 2, 10])
+}
+
+fn not_zero(random: &mut Random) -> u8 {
+    random.length(1, 255) as u8
+}
+
 fn spoil_record(random: &mut Random, record: &mut [u8]) {
-    match random.below(3) {
+    match random.below(4) {
         0 => record[0] |= 1,
-        1 => record[136] = no_stop(random),
-        _ => record[random.length(137, 143)] = random.length(1, 255) as u8,
+        1 => record[STOP] = no_stop(random),
+        2 => record[ZERO][random.length(0, 2)] = not_zero(random),
+        _ => {
+            record[STOP] = stop_without_address(random);
+            record[ADDRESS][random.length(0, 3)] = not_zero(random);
+        }
     }
 }
 

@@ -44,7 +44,8 @@ pub fn round(tally: &mut Tally, random: &mut Random) -> Check {
 /// Every operation on two registers, and every branch, on every pair of these values.
 pub fn all_edges(tally: &mut Tally) -> Check {
     let mut scene = scene::sound(&mut Random::new(0));
-    (scene.state.pc, scene.state.count, scene.state.stop) = (0, 0, 0);
+    (scene.state.pc, scene.state.count) = (0, 0);
+    (scene.state.stop, scene.state.address) = (0, 0);
     let on_two = (op::BEQ..=op::BGEU)
         .chain(op::ADD..=op::AND)
         .chain(op::MUL..=op::REMU);
@@ -76,7 +77,8 @@ fn one_operation(tally: &mut Tally, random: &mut Random, operation: u32) -> Chec
     let bits = any_of(random, operation);
     let at = 2 * random.length(0, (scene.mem.len() - 4) / 2);
     scene.mem[at..at + 4].copy_from_slice(&bits.to_le_bytes());
-    (scene.state.pc, scene.state.stop) = (at as u32, 0);
+    scene.state.pc = at as u32;
+    (scene.state.stop, scene.state.address) = (0, 0);
     compare(tally, Entry::Step, &scene).map(|_| ())
 }
 
@@ -128,9 +130,13 @@ fn whole_run(tally: &mut Tally, random: &mut Random) -> Check {
 /// Slots read, written and run, with states and buffers of every kind.
 fn slots(tally: &mut Tally, random: &mut Random) -> Check {
     let mut scene = scene::sound(random);
-    if random.once_in(2) {
-        let length = random.length(0, 4 * RECORD);
-        scene.slots = random.bytes(length);
+    match random.below(4) {
+        0 => scene.slots = random.bytes(scene.slots.len()),
+        1 => {
+            let length = random.length(0, 4 * RECORD);
+            scene.slots = random.bytes(length);
+        }
+        _ => {}
     }
     if random.once_in(8) {
         scene.slots.iter_mut().for_each(|byte| *byte = 0);
@@ -140,7 +146,10 @@ fn slots(tally: &mut Tally, random: &mut Random) -> Check {
         scene.state.stop = random.below(Stop::ALL.len() as u64 + 3) as u8;
     }
     if random.once_in(16) {
-        scene.state.zero[random.length(0, 6)] = random.number() as u8;
+        scene.state.zero[random.length(0, 2)] = random.number() as u8;
+    }
+    if random.once_in(4) {
+        scene.state.address = random.word();
     }
     if random.once_in(4) {
         scene.k = random.pick(&[0, 1, 2, 3, 4, usize::MAX, 1 << 60, 1 << 63]);

@@ -5,6 +5,7 @@ use crate::program::{self, Temper};
 use crate::tally::{first_other, number, Difference, Tally};
 use phuyurik::{Board, Slots, Stop, RECORD, ROW};
 use second::State;
+use std::ops::Range;
 use testing::Random;
 
 #[derive(Clone, PartialEq, Eq)]
@@ -28,13 +29,16 @@ pub enum Entry {
     RunSlot,
 }
 
-/// Where the zeros of a state stand in its record, after its stop number.
-const ZERO: usize = 137;
+/// Where the stop number, the zeros after it and the address of a state stand in its record.
+pub const STOP: usize = 136;
+pub const ZERO: Range<usize> = 137..140;
+pub const ADDRESS: Range<usize> = 140..144;
 
 fn to_proved(state: &State) -> phuyurik::State {
     let mut record = [0; RECORD];
-    record[ZERO - 1] = state.stop;
-    record[ZERO..].copy_from_slice(&state.zero);
+    record[STOP] = state.stop;
+    record[ZERO].copy_from_slice(&state.zero);
+    record[ADDRESS].copy_from_slice(&state.address.to_le_bytes());
     let mut proved = phuyurik::State::from_bytes(record);
     (proved.pc, proved.count) = (state.pc, state.count);
     for (n, value) in (1..).zip(state.x) {
@@ -48,10 +52,11 @@ fn to_second(proved: &phuyurik::State) -> State {
         pc: proved.pc,
         count: proved.count,
         stop: proved.stop_number(),
+        address: proved.address(),
         ..State::fresh()
     };
     state.x.copy_from_slice(&proved.registers()[1..]);
-    state.zero.copy_from_slice(&proved.to_bytes()[ZERO..]);
+    state.zero.copy_from_slice(&proved.to_bytes()[ZERO]);
     state
 }
 
@@ -131,7 +136,7 @@ pub fn compare(tally: &mut Tally, entry: Entry, before: &Scene) -> Result<After,
     })
 }
 
-/// Counts the stop that a paused state came to; paused only if it retired something.
+/// Counts the stop that a paused state came to, and its address; paused only if it retired something.
 fn note_stop(tally: &mut Tally, entry: Entry, before: &Scene, after: &Scene) {
     let (Some(from), Some(to)) = (entry.subject(before), entry.subject(after)) else {
         return;
@@ -140,6 +145,7 @@ fn note_stop(tally: &mut Tally, entry: Entry, before: &Scene, after: &Scene) {
     tally.steps += retired;
     if from.stop == 0 && (retired > 0 || to.stop != 0) {
         tally.stops[usize::from(to.stop)] += 1;
+        tally.note_address(&to);
     }
 }
 
@@ -188,7 +194,8 @@ pub fn calm(random: &mut Random) -> Scene {
     let mut mem = program::code(random, length / 2, Temper::Calm);
     mem.resize(length, 0);
     let mut state = state(random, length);
-    (state.pc, state.count, state.stop) = (0, random.below(1000), 0);
+    (state.pc, state.count) = (0, random.below(1000));
+    (state.stop, state.address) = (0, 0);
     for pointer in program::POINTERS {
         let behind = random.length(length / 2 + 12, length - 132);
         state.x[pointer as usize - 1] = behind as u32 & !3;
@@ -260,7 +267,8 @@ fn budget(random: &mut Random) -> u64 {
     }
 }
 
-/// A state that is not malformed, mostly paused, with pc mostly in the program.
+/// A state that is not malformed, mostly paused, with pc mostly in the program. Where its stop may have
+/// an address it has any, also none, as old records do.
 pub fn state(random: &mut Random, length: usize) -> State {
     let mut state = State {
         pc: program_counter(random, length) & !1,
@@ -268,7 +276,11 @@ pub fn state(random: &mut Random, length: usize) -> State {
         ..State::fresh()
     };
     if random.once_in(16) {
-        state.stop = random.below(Stop::ALL.len() as u64) as u8;
+        let stop = random.pick(Stop::ALL);
+        state.stop = stop.number();
+        if stop.has_address() && !random.once_in(3) {
+            state.address = program::value(random, length);
+        }
     }
     for value in &mut state.x {
         *value = program::value(random, length);

@@ -1,6 +1,7 @@
 //! What was compared, and what was reached by it.
 
 use phuyurik::{Error, Refusal, Stop};
+use second::State;
 use std::fmt::Debug;
 
 /// What differed, in words.
@@ -19,6 +20,9 @@ pub struct Tally {
     pub steps: u64,
     /// How often a paused state came to each stop.
     pub stops: [u64; Stop::ALL.len()],
+    /// How often an address other than 0 came with the stop; pc + 2 for a fetch is counted apart.
+    pub addresses: [u64; Stop::ALL.len()],
+    pub second_halfwords: u64,
     /// How often each refusal was answered; the first place stays 0.
     pub refusals: [u64; Refusal::ALL.len() + 1],
 }
@@ -83,26 +87,58 @@ impl Tally {
         }
     }
 
-    /// The stops and refusals that were never reached; a full comparison has none.
+    /// Counts the address of a state that has just stopped. An address of 0 shows nothing: it would
+    /// stand there without having been set.
+    pub fn note_address(&mut self, state: &State) {
+        if state.address == 0 {
+            return;
+        }
+        let is_second_halfword = state.address == state.pc.wrapping_add(2);
+        if state.stop == Stop::FetchOutside.number() && is_second_halfword {
+            self.second_halfwords += 1;
+        } else {
+            self.addresses[usize::from(state.stop)] += 1;
+        }
+    }
+
+    /// How often each stop that has an address came with one, by the stop's number.
+    fn addressed(&self) -> impl Iterator<Item = (u8, u64)> + '_ {
+        let stops = Stop::ALL.iter().filter(|stop| stop.has_address());
+        let numbers = stops.map(|stop| stop.number());
+        numbers.map(|number| (number, self.addresses[usize::from(number)]))
+    }
+
+    /// The stops, their addresses and the refusals that were never reached; a full comparison has none.
     pub fn missing(&self) -> Vec<String> {
-        let never = |kind: &'static str, counts: &[u64], first: usize| {
-            let zeros = (first..).zip(&counts[first..]).filter(|(_, &n)| n == 0);
-            zeros
-                .map(|(number, _)| format!("{kind} {number}"))
-                .collect()
-        };
-        let mut missing: Vec<String> = never("stop", &self.stops, 0);
-        missing.extend::<Vec<String>>(never("refusal", &self.refusals, 1));
-        missing
+        let mut reached = Vec::new();
+        let mut note = |what: String, count: u64| reached.push((what, count));
+        for (number, count) in self.stops.iter().enumerate() {
+            note(format!("stop {number}"), *count);
+        }
+        for (number, count) in self.addressed() {
+            note(format!("an address of stop {number}"), count);
+        }
+        note("stop 4 at pc + 2".to_string(), self.second_halfwords);
+        for (number, count) in self.refusals.iter().enumerate().skip(1) {
+            note(format!("refusal {number}"), *count);
+        }
+        reached.retain(|(_, count)| *count == 0);
+        reached.into_iter().map(|(what, _)| what).collect()
     }
 
     pub fn summary(&self, differences: u32, seed: u64) -> String {
         let (comparisons, steps) = (grouped(self.comparisons), grouped(self.steps));
+        let addresses = self.addressed();
+        let addresses = addresses.map(|(stop, count)| format!("{stop}: {}", grouped(count)));
+        let addresses: Vec<String> = addresses.collect();
         format!(
             "compare: {comparisons} comparisons ({steps} steps), {differences} differences, \
-             seed {seed}, stops 0-{} reached: {}, refusals 1-{} reached: {}",
+             seed {seed}, stops 0-{} reached: {}, addresses of stop {}, 4 at pc + 2: {}, \
+             refusals 1-{} reached: {}",
             self.stops.len() - 1,
             counts(&self.stops),
+            addresses.join(", "),
+            grouped(self.second_halfwords),
             self.refusals.len() - 1,
             counts(&self.refusals[1..])
         )
@@ -158,8 +194,37 @@ mod tests {
             refusals: [1; Refusal::ALL.len() + 1],
             ..Tally::default()
         };
+        for stop in 3..=9 {
+            assert!(tally
+                .missing()
+                .contains(&format!("an address of stop {stop}")));
+            tally.note_address(&stopped(stop, 0));
+            tally.note_address(&stopped(stop, 8));
+        }
+        assert_eq!(tally.missing(), ["stop 4 at pc + 2"]);
+        tally.note_address(&stopped(4, 10));
         assert!(tally.missing().is_empty());
         (tally.stops[10], tally.refusals[9]) = (0, 0);
         assert_eq!(tally.missing(), ["stop 10", "refusal 9"]);
+    }
+
+    /// A state at 8.
+    fn stopped(stop: u8, address: u32) -> State {
+        State {
+            pc: 8,
+            stop,
+            address,
+            ..State::fresh()
+        }
+    }
+
+    #[test]
+    fn an_address_of_0_shows_nothing_and_the_second_halfword_is_no_first() {
+        let mut tally = Tally::default();
+        tally.note_address(&stopped(6, 0));
+        tally.note_address(&stopped(4, 10));
+        assert_eq!((tally.addresses[6], tally.addresses[4]), (0, 0));
+        tally.note_address(&stopped(6, 10));
+        assert_eq!((tally.addresses[6], tally.second_halfwords), (1, 1));
     }
 }

@@ -7,14 +7,15 @@ const ROW: usize = 512;
 const WINDOW: u32 = 0x8000_0000;
 const WINDOW_LENGTH: u32 = 256;
 
-/// A state: `x[0]` is x1. It is lent as its record, of which the last seven bytes must be zero.
+/// A state: `x[0]` is x1. It is lent as its record, of which three bytes after the stop must be zero.
 #[derive(Clone, Debug, Default, PartialEq, Eq)]
 pub struct State {
     pub pc: u32,
     pub x: [u32; 31],
     pub count: u64,
     pub stop: u8,
-    pub zero: [u8; 7],
+    pub zero: [u8; 3],
+    pub address: u32,
 }
 
 impl State {
@@ -58,7 +59,13 @@ fn record_is_sound(record: &[u8]) -> bool {
 }
 
 pub(crate) fn check_state(s: &State) -> Result<(), u32> {
-    if !s.pc.is_multiple_of(2) || s.stop > stop::COUNT_FULL || s.zero != [0; 7] {
+    let may_have_address = !matches!(
+        s.stop,
+        stop::PAUSED | stop::ECALL | stop::EBREAK | stop::COUNT_FULL
+    );
+    let is_address_sound = may_have_address || s.address == 0;
+    let is_stop_sound = s.stop <= stop::COUNT_FULL && s.zero == [0; 3] && is_address_sound;
+    if !s.pc.is_multiple_of(2) || !is_stop_sound {
         return Err(refusal::STATE);
     }
     Ok(())
@@ -80,8 +87,8 @@ pub(crate) fn run_checked(s: &mut State, mem: &mut [u8], row: &mut [u8], budget:
     let mut retired = 0;
     while retired < budget {
         // never overflows: a full count stops
-        if let Err(stop) = machine.step(s.count + retired) {
-            s.stop = stop;
+        if let Err(Stopped { stop, address }) = machine.step(s.count + retired) {
+            (s.stop, s.address) = (stop, address);
             break;
         }
         retired += 1;
@@ -100,14 +107,31 @@ struct Machine<'a> {
     row: &'a mut [u8],
 }
 
-/// A completed action, or the number of the stop; on a stop nothing has changed.
-type Outcome<T> = Result<T, u8>;
+/// The number of a stop and where it stopped, which is 0 for a stop that has no address.
+#[derive(Clone, Copy)]
+struct Stopped {
+    stop: u8,
+    address: u32,
+}
+
+impl Stopped {
+    fn at(address: u32, stop: u8) -> Stopped {
+        Stopped { stop, address }
+    }
+
+    fn without_address(stop: u8) -> Stopped {
+        Stopped { stop, address: 0 }
+    }
+}
+
+/// A completed action, or why it stopped; on a stop nothing has changed.
+type Outcome<T> = Result<T, Stopped>;
 
 impl Machine<'_> {
     #[inline(always)]
     fn step(&mut self, count: u64) -> Outcome<()> {
         if count == u64::MAX {
-            return Err(stop::COUNT_FULL);
+            return Err(Stopped::without_address(stop::COUNT_FULL));
         }
         let (inst, length) = self.fetch()?;
         self.pc = self.execute(inst, self.pc.wrapping_add(length))?;
@@ -117,23 +141,27 @@ impl Machine<'_> {
     /// The instruction at pc and its length.
     #[inline(always)]
     fn fetch(&self) -> Outcome<(Inst, u32)> {
-        let at = self.pc as usize;
-        let low = self.halfword(at).ok_or(stop::FETCH_OUTSIDE)?;
+        let illegal = Stopped::at(self.pc, stop::ILLEGAL);
+        let low = self.halfword(self.pc)?;
         if low & 3 != 3 {
-            return Ok((short::half(low).ok_or(stop::ILLEGAL)?, 2));
+            return Ok((short::half(low).ok_or(illegal)?, 2));
         }
         if low & 31 == 31 {
-            return Err(stop::ILLEGAL);
+            return Err(illegal);
         }
-        let high = self.halfword(at + 2).ok_or(stop::FETCH_OUTSIDE)?;
-        let inst = decode::word(high << 16 | low).ok_or(stop::ILLEGAL)?;
+        let high = self.halfword(self.pc.wrapping_add(2))?;
+        let inst = decode::word(high << 16 | low).ok_or(illegal)?;
         Ok((inst, 4))
     }
 
+    /// The halfword at an address, which is told if it could not be fetched.
     #[inline(always)]
-    fn halfword(&self, at: usize) -> Option<u32> {
-        let bytes = self.mem.get(at..)?.first_chunk()?;
-        Some(u16::from_le_bytes(*bytes).into())
+    fn halfword(&self, address: u32) -> Outcome<u32> {
+        let in_memory = self.mem.get(address as usize..);
+        match in_memory.and_then(<[u8]>::first_chunk) {
+            Some(bytes) => Ok(u16::from_le_bytes(*bytes).into()),
+            None => Err(Stopped::at(address, stop::FETCH_OUTSIDE)),
+        }
     }
 
     /// Does an instruction and answers the next pc; `after` is the address behind it.
@@ -165,8 +193,8 @@ impl Machine<'_> {
             op::ADDI..=op::SRAI => self.set(i.rd, arithmetic(i.operation, a, i.imm)),
             op::ADD..=op::AND => self.set(i.rd, arithmetic(i.operation, a, b)),
             op::FENCE => {}
-            op::ECALL => return Err(stop::ECALL),
-            op::EBREAK => return Err(stop::EBREAK),
+            op::ECALL => return Err(Stopped::without_address(stop::ECALL)),
+            op::EBREAK => return Err(Stopped::without_address(stop::EBREAK)),
             _ => self.set(i.rd, multiply_or_divide(i.operation, a, b)),
         }
         Ok(next)
@@ -207,7 +235,7 @@ impl Machine<'_> {
     #[inline(always)]
     fn read<const N: usize>(&self, address: u32) -> Outcome<[u8; N]> {
         if !(address as usize).is_multiple_of(N) {
-            return Err(stop::LOAD_MISALIGNED);
+            return Err(Stopped::at(address, stop::LOAD_MISALIGNED));
         }
         let in_memory = self.mem.get(address as usize..);
         match in_memory.and_then(<[u8]>::first_chunk) {
@@ -218,16 +246,17 @@ impl Machine<'_> {
 
     /// The value of a row's word; a blank one has value 0. Only whole words are read there.
     fn read_row<const N: usize>(&self, address: u32) -> Outcome<[u8; N]> {
+        let outside = Stopped::at(address, stop::LOAD_OUTSIDE);
         let record = record_at(address).filter(|_| N == 4);
-        let record = &self.row[8 * record.ok_or(stop::LOAD_OUTSIDE)?..];
-        record.first_chunk().copied().ok_or(stop::LOAD_OUTSIDE)
+        let record = &self.row[8 * record.ok_or(outside)?..];
+        record.first_chunk().copied().ok_or(outside)
     }
 
     /// Stores N bytes at an address: misaligned, then outside, then already burnt.
     #[inline(always)]
     fn write<const N: usize>(&mut self, address: u32, bytes: [u8; N]) -> Outcome<()> {
         if !(address as usize).is_multiple_of(N) {
-            return Err(stop::STORE_MISALIGNED);
+            return Err(Stopped::at(address, stop::STORE_MISALIGNED));
         }
         let in_memory = self.mem.get_mut(address as usize..);
         match in_memory.and_then(<[u8]>::first_chunk_mut) {
@@ -240,9 +269,10 @@ impl Machine<'_> {
     /// Burns a word of the row. Only whole words are stored there, and a burnt one never again.
     fn burn(&mut self, address: u32, bytes: &[u8]) -> Outcome<()> {
         let record = record_at(address).filter(|_| bytes.len() == 4);
-        let record = &mut self.row[8 * record.ok_or(stop::STORE_OUTSIDE)?..];
+        let outside = Stopped::at(address, stop::STORE_OUTSIDE);
+        let record = &mut self.row[8 * record.ok_or(outside)?..];
         if record[4] != 0 {
-            return Err(stop::ALREADY_BURNT);
+            return Err(Stopped::at(address, stop::ALREADY_BURNT));
         }
         record[..4].copy_from_slice(bytes);
         record[4] = 1;

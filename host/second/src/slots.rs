@@ -7,6 +7,8 @@ use std::ops::Range;
 const RECORD: usize = 144;
 const COUNT: Range<usize> = 128..136;
 const STOP: usize = 136;
+const ZERO: Range<usize> = 137..140;
+const ADDRESS: Range<usize> = 140..144;
 
 /// Writes a state to slot `k`; refusals 4 and 5.
 pub fn write_slot(slots: &mut [u8], k: usize, s: &State) -> Result<(), u32> {
@@ -52,7 +54,8 @@ fn record(s: &State) -> [u8; RECORD] {
     }
     record[COUNT].copy_from_slice(&s.count.to_le_bytes());
     record[STOP] = s.stop;
-    record[STOP + 1..].copy_from_slice(&s.zero);
+    record[ZERO].copy_from_slice(&s.zero);
+    record[ADDRESS].copy_from_slice(&s.address.to_le_bytes());
     record
 }
 
@@ -64,7 +67,8 @@ fn state(record: &[u8]) -> Result<State, u32> {
     }
     s.count = little_endian(&record[COUNT]);
     s.stop = record[STOP];
-    s.zero.copy_from_slice(&record[STOP + 1..]);
+    s.zero.copy_from_slice(&record[ZERO]);
+    s.address = little_endian(&record[ADDRESS]) as u32;
     check_state(&s)?;
     Ok(s)
 }

@@ -73,12 +73,13 @@ fn cards_11_and_12_runs() {
     for (budget, stop) in [(100, 1), (3, 0)] {
         let (mut s, mut mem, mut row) = (State::fresh(), IMAGE, [0; 512]);
         assert_eq!(run(&mut s, &mut mem, &mut row, budget), Ok(3));
-        assert_eq!((s.stop, s.pc, s.count), (stop, 10, 3));
+        assert_eq!((s.stop, s.address, s.pc, s.count), (stop, 0, 10, 3));
         assert_eq!((row, mem), (burnt_with_7, IMAGE));
     }
     let (mut s, mut mem, mut row) = (State::fresh(), IMAGE, burnt_with_7);
     assert_eq!(run(&mut s, &mut mem, &mut row, 100), Ok(2));
-    assert_eq!((s.stop, s.pc, row), (9, 6, burnt_with_7));
+    assert_eq!((s.stop, s.address, s.pc), (9, 0x8000_0000, 6));
+    assert_eq!(row, burnt_with_7);
 }
 
 /// The stop of one step of a load from 0(x1), with this address in x1.

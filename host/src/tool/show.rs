@@ -100,9 +100,13 @@ pub fn slot_text(state: &State) -> String {
     text + &format!("count {}\n{}\n", state.count, stop_line(state))
 }
 
-/// The stop of a state, in words; the library gives none that has no name.
+/// The stop of a state, in words, and where it stopped, if the stop has an address; the library gives
+/// none that has no name.
 pub fn stop_line(state: &State) -> String {
     match state.stop() {
+        Ok(stop) if stop.has_address() => {
+            format!("{}, at 0x{:08x}", stop_text(stop), state.address())
+        }
         Ok(stop) => stop_text(stop),
         Err(unknown) => format!("stop {}: {unknown}", unknown.number()),
     }

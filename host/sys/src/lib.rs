@@ -30,7 +30,8 @@ const _: () = assert!(
 /// [`phuyurik_version`]'s, and must be the same.
 ///
 /// ```
-/// assert_eq!(phuyurik_sys::VERSION, 2 * 256);
+/// // SAFETY: it is lent nothing.
+/// assert_eq!(phuyurik_sys::VERSION, unsafe { phuyurik_sys::phuyurik_version() });
 /// ```
 pub const VERSION: u32 = number(env!("CARGO_PKG_VERSION_MAJOR")) * 65_536
     + number(env!("CARGO_PKG_VERSION_MINOR")) * 256
@@ -83,7 +84,9 @@ pub struct State {
     /// The number of a stop, 0 while the state is paused.
     pub stop: u8,
     /// Zero.
-    pub zero: [u8; 7],
+    pub zero: [u8; 3],
+    /// The address that belongs to the stop, 0 where it has none.
+    pub address: u32,
 }
 
 const _: () = {
@@ -93,6 +96,7 @@ const _: () = {
     assert!(offset_of!(State, count) == 128);
     assert!(offset_of!(State, stop) == 136);
     assert!(offset_of!(State, zero) == 137);
+    assert!(offset_of!(State, address) == 140);
     assert!(size_of::<Instruction>() == 20);
     assert!(offset_of!(Instruction, operation) == 0);
     assert!(offset_of!(Instruction, imm) == 16);
@@ -246,7 +250,7 @@ extern "C" {
     ///     let (memory, row) = (memory.as_mut_ptr(), row.as_mut_ptr());
     ///     phuyurik_sys::phuyurik_run(&mut state, memory, 4, row, 512, 9, &mut retired);
     /// }
-    /// assert_eq!((state.stop, retired), (4, 1));
+    /// assert_eq!((state.stop, state.address, retired), (4, 4, 1));
     /// ```
     pub fn phuyurik_run(
         state: *mut State,
@@ -297,7 +301,7 @@ extern "C" {
     ///     let slots = slots.as_mut_ptr();
     ///     phuyurik_sys::phuyurik_run_slot(memory, 4, row, 512, slots, 144, 0, 9, &mut retired);
     /// }
-    /// assert_eq!((slots[136], retired), (4, 1));
+    /// assert_eq!((slots[136], slots[140], retired), (4, 4, 1));
     /// ```
     pub fn phuyurik_run_slot(
         mem: *mut u8,

@@ -50,11 +50,11 @@ returns-11 c = rw (c .enum-told .given .1)
 
 returns-12 : tie.Need-returns-12
 unfolding actOf
-returns-12 c = rw (c .enum-told2 .given .1)
+returns-12 c = rw (c .ends .ensures, c .before .enum-told2 .given .1)
 
 returns-13 : tie.Need-returns-13
 unfolding actOf
-returns-13 c = rw (c .enum-told3 .given .1)
+returns-13 c = rw (c .ends2 .ensures, c .before .enum-told3 .given .1)
 
 returns-14 : tie.Need-returns-14
 unfolding actOf
@@ -98,7 +98,9 @@ decide-spec =
     _
     (λ c. search needs)
     (λ c. search needs)
+    _
     (λ c. search needs)
+    _
     (λ c. search needs)
     _
     _

@@ -35,11 +35,11 @@ returns-4 c =
 
 returns-5 : tie.Need-returns-5
 returns-5 c =
-    let k = c .before in
+    let k = c .before .before in
     let h = k .before .before in
     let at = h .before .before .before .args in
-    let beyond : length (at .mem .now) < at .pc + 4 = c .if4 .taken in
-    rw (fetch-long (at .pc) (at .mem .now) (h .before .if1 .left) (h .load2 .ensures) (k .before .if2 .left) (k .if3 .left), lt-leb _ _ beyond)
+    let beyond : length (at .mem .now) < at .pc + 4 = c .before .if4 .taken in
+    rw (fetch-long (at .pc) (at .mem .now) (h .before .if1 .left) (h .load2 .ensures) (k .before .if2 .left) (k .if3 .left), lt-leb _ _ beyond, c .add .ensures)
 
 returns-6 : tie.Need-returns-6
 returns-6 c =
@@ -71,6 +71,7 @@ fetch-spec =
     returns-3
     returns-4
     (λ c. search needs)
+    _
     returns-5
     (λ c κs. search needs)
     _

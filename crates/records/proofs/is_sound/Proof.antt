@@ -1,4 +1,4 @@
--- `is_sound` meets its contract: the eight bytes from 136 are the stop number's, and 256 times the seven after it. Assumes nothing.
+-- `is_sound` meets its contract: the four bytes from 136 are the stop number's, and 256 times the three after it. Assumes nothing.
 use native.Mathlib.Omega.{arith}
 use mathlib.Core.Path.{ap}
 use mathlib.Core.Bool.{_&&_}
@@ -14,7 +14,7 @@ returns : tie.Need-returns
 returns c =
     let m = c .before .before .before .before .args .part .now in
     let zeros = after-stop m (omega arith) (omega (arith, c .before .before .before .shared-slice-known .given 136)) in
-    rw (c .before .is-well-formed .ensures, c .before .before .read-record .ensures, c .load8 .ensures) (ap (λ v. wellFormed (stateOf m) && eqb v 0) zeros)
+    rw (c .before .is-well-formed .ensures, c .before .before .read-record .ensures, c .load4 .ensures) (ap (λ v. wellFormed (stateOf m) && eqb v 0) zeros)
 
 pub is-sound-spec : {M : Type 1} → statement M
 is-sound-spec = tie.close (tie.spec (λ c κs. search needs) _ (λ c κs. search needs) returns)

@@ -31,12 +31,12 @@ loop-again c =
 returns : tie.Need-returns Inv-loop μ-loop
 unfolding stateOf
 returns c =
-    let l = c .before .before .before .before .loop in
-    let m = c .before .before .before .before .before .before .args .part .now in
+    let l = c .before .before .before .before .before .loop in
+    let m = c .before .before .before .before .before .before .before .args .part .now in
     let z : l .i ≡ 31 = omega arith in
     let e : l .x ≡ ofWords 31 (drop 4 m) = sym (take-all 31 (l .x) (omega arith)) ∙ (rw z at (l .inv .1 .1)) in
-    rw (c .before .before .load42 .ensures, c .before .load8 .ensures, e)
-    (ap (λ v. state (load 4 0 m) (ofWords 31 (drop 4 m)) (load 8 128 m) v) (load-one 136 m (omega arith)))
+    rw (c .before .before .before .load42 .ensures, c .before .before .load8 .ensures, c .load43 .ensures, e)
+    (ap (λ v. state (load 4 0 m) (ofWords 31 (drop 4 m)) (load 8 128 m) v (load 4 140 m)) (load-one 136 m (omega arith)))
 
 pub read-record-spec : {M : Type 1} → statement M
 read-record-spec =
@@ -56,4 +56,5 @@ read-record-spec =
     (λ c κs. search needs)
     (λ c κs. search needs)
     (λ c. search needs)
+    (λ c κs. search needs)
     returns)

@@ -13,7 +13,7 @@ use Rattle.records.proofs.write_record.Tie as tie
 
 abbrev Inv-loop : tie.InvT-loop
 Inv-loop part₀ s x i₀ part i =
-    (i ≤ 31) × ((length part ≡ 144) × (take (4 + 4 * i) part ≡ littleEndian 4 (s .pc) ++ words (take i x)))
+    (i ≤ 31) × ((length part ≡ 144) × ((length x ≡ 31) × (take (4 + 4 * i) part ≡ littleEndian 4 (s .pc) ++ words (take i x))))
 
 abbrev μ-loop : tie.MeasureT-loop
 μ-loop part₀ s x i₀ part i = 31 - i
@@ -21,27 +21,24 @@ abbrev μ-loop : tie.MeasureT-loop
 loop-holds : tie.Need-loop-holds Inv-loop μ-loop
 loop-holds c =
     let k = c .before .before .store4 in
-    (search needs, (search needs, write-start _ _ _ (search needs) (k .ensures)))
+    (search needs, (search needs, (search needs, write-start _ _ _ (search needs) (k .ensures))))
 
 loop-again : tie.Need-loop-again Inv-loop μ-loop
 loop-again c =
     let l = c .before .before .before .before .before .loop in
     let s = c .before .before .before .before .before .before .before .before .before .before .before .before .args .s in
-    let n : length (s .x) ≡ 31 = search needs in (
-      search needs,
-      (
-        search needs,
-        write-turn (littleEndian 4 (s .pc)) (s .x) (l .i) (l .part) _ (omega arith) (omega arith) (l .inv .1 .1) (c .before .before .store42 .ensures),
-      ),
-    )
+    let n : length (s .x) ≡ 31 = l .inv .1 .1 .0 in
+    let turned = write-turn (littleEndian 4 (s .pc)) (s .x) (l .i) (l .part) _ (omega arith) (omega arith) (l .inv .1 .1 .1) (c .before .before .store42 .ensures) in
+    (search needs, (search needs, (n, turned)))
 
 returns : tie.Need-returns Inv-loop μ-loop
 unfolding recordOf
 returns c =
-    let l = c .before .before .before .before .before .before .before .before .before .before .loop in
-    let s = c .before .before .before .before .before .before .before .before .before .before .before .before .before .before .before .before .before .args .s in
-    let n : length (s .x) ≡ 31 = search needs in
-    write-done (littleEndian 4 (s .pc)) (s .x) (s .count) (s .stop) (l .i) (l .part) _ _ n (omega arith) (l .inv .1 .0) (search needs) (l .inv .1 .1) (c .before .before .before .before .before .before .before .store8 .ensures) (c .before .before .store82 .ensures)
+    let stopped = c .before .before .before .before .before .before in
+    let counted = stopped .before .before .before .before .before in
+    let l = counted .before .before .before .loop in
+    let s = counted .before .before .before .before .before .before .before .before .before .before .args .s in
+    write-done (littleEndian 4 (s .pc)) (s .x) (s .count) (s .stop) (s .address) (l .i) (l .part) _ _ _ (l .inv .1 .1 .0) (omega arith) (l .inv .1 .0) (search needs) (l .inv .1 .1 .1) (counted .store8 .ensures) (stopped .store43 .ensures) (c .before .before .store44 .ensures)
 
 pub write-record-spec : {M : Type 1} → statement M
 write-record-spec =
@@ -61,6 +58,7 @@ write-record-spec =
     loop-again
     (λ c κs. search needs)
     (λ c. search needs)
+    (λ c κs. search needs)
     (λ c κs. search needs)
     (λ c. search needs)
     returns)

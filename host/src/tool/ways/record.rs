@@ -32,8 +32,7 @@ pub fn text(record: &[u8; RECORD]) -> String {
 fn state_text(state: &State) -> String {
     let stop = match state.stop() {
         Ok(Stop::Paused) => "paused".to_string(),
-        Ok(stop) => show::stop_text(stop),
-        Err(unknown) => unknown.to_string(),
+        _ => show::stop_line(state),
     };
     let (count, pc) = (state.count, show::both(state.pc));
     format!("{stop} at count {count}, pc {pc}")
