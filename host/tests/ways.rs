@@ -9,6 +9,7 @@ use std::fs::{self, File};
 use std::os::unix::fs::{MetadataExt, PermissionsExt};
 use std::path::{Path, PathBuf};
 use std::process::{Command, Output};
+use std::time::{Duration, Instant};
 use testing::Folder;
 
 /// Burns words 0 to 3 with 7, 9, 11 and 13, as GNU as has it. The first word is burnt with step 3,
@@ -708,6 +709,18 @@ fn mistyped_names_leave_nothing_behind() {
     }
 }
 
+/// The lock in this file. A process that another test has just started may for a moment have one
+/// that was dropped here.
+fn hold(path: &Path) -> File {
+    let file = File::open(path).expect("there");
+    let clock = Instant::now();
+    while file.try_lock().is_err() {
+        assert!(clock.elapsed() < Duration::from_secs(20), "free");
+        std::thread::sleep(Duration::from_millis(1));
+    }
+    file
+}
+
 #[test]
 fn what_a_run_holds_is_busy() {
     let bench = Bench::new();
@@ -715,8 +728,7 @@ fn what_a_run_holds_is_busy() {
     bench.cut_short("part.row", 0, "line.slots.0.memory");
     fs::write(bench.file("line.slots"), [0; 144]).expect("written");
     for lock in ["line.slots.0.lock", "part.row.lock"] {
-        let held = File::open(bench.file(lock)).expect("there");
-        held.try_lock().expect("free");
+        let _held = hold(&bench.file(lock));
         let mut lines = vec!["forget line.slots 0 --yes", "settle part.row --yes"];
         match lock {
             "part.row.lock" => lines.push("settle part.row --discard --yes"),
@@ -727,8 +739,7 @@ fn what_a_run_holds_is_busy() {
             assert_eq!(answer.code, 4, "{line}: {}{}", answer.out, answer.err);
         }
     }
-    let held = File::open(bench.file("part.row.lock")).expect("there");
-    held.try_lock().expect("free");
+    let held = hold(&bench.file("part.row.lock"));
     let at_work = "part.row: 2 burnt, 62 blank (a run is at work on it";
     assert!(bench.status().contains(at_work));
     drop(held);
