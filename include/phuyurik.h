@@ -41,7 +41,7 @@ extern "C" {
  */
 
 #define PHUYURIK_VERSION_MAJOR 0
-#define PHUYURIK_VERSION_MINOR 3
+#define PHUYURIK_VERSION_MINOR 4
 #define PHUYURIK_VERSION_PATCH 0
 #define PHUYURIK_VERSION                                                                                \
     (PHUYURIK_VERSION_MAJOR * 65536u + PHUYURIK_VERSION_MINOR * 256u + PHUYURIK_VERSION_PATCH)
@@ -300,7 +300,9 @@ static inline void phuyurik_set_stop(phuyurik_state *state, phuyurik_stop stop) 
 /* ---- rows
  *
  * Word k of a row is bytes 8k to 8k + 7: its value in the first four, little-endian, its mark in the
- * fifth (0 blank, 1 burnt), the rest zero. A blank row is 512 zero bytes. */
+ * fifth (0 blank, 1 burnt), the rest zero. A blank word's value is zero, a burnt word's value is not
+ * zero; any other record breaks the rules. A store of another value than zero to a blank word burns it;
+ * a store of zero to a blank word changes nothing. A blank row is 512 zero bytes. */
 
 /* Whether word k of a row is burnt. k is 0 to 63; any other word is not. */
 static inline int phuyurik_is_burnt(const uint8_t *row, unsigned k) {

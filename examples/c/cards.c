@@ -1,6 +1,6 @@
 /* Through the C interface: the paper's cards 1, 3, 7, 10, 11 (also with a budget of 3) and 12, the
- * recipe in pieces through a slot, its listing, the addresses of stops, and three refusals. Valid C11
- * and C++17. */
+ * recipe in pieces through a slot, its listing, a word cleared and trimmed, the addresses of stops, and
+ * four refusals. Valid C11 and C++17. */
 #include <phuyurik.h>
 
 #include <stdio.h>
@@ -127,6 +127,29 @@ static void list(const uint8_t *image, size_t image_size) {
     }
 }
 
+/* Clears word 0 of a blank row, which is no pulse, burns it, and clears it again, which stops. A mark
+ * with the value 0 is refused. */
+static int clear_and_trim(struct bench *b) {
+    static const uint8_t stores[12] = {0x23, 0xA0, 0x00, 0x00,  /* sw x0,0(x1) */
+                                       0x23, 0xA0, 0x20, 0x00,  /* sw x2,0(x1) */
+                                       0x23, 0xA0, 0x00, 0x00}; /* sw x0,0(x1) */
+    uint64_t retired = 0;
+    phuyurik_refusal refusal;
+    memset(b->row, 0, sizeof b->row);
+    start(b);
+    memcpy(b->memory, stores, sizeof stores);
+    b->state.x[0] = 0x80000000;
+    b->state.x[1] = 7;
+    if (run(b, 1, &retired)) return 1;
+    show("cleared", retired, b);
+    if (run(b, 9, &retired)) return 1;
+    show("trimmed", retired, b);
+    b->row[0] = 0;
+    refusal = run(b, 9, &retired);
+    printf("%u is: %s\n", (unsigned)refusal, phuyurik_refusal_text(refusal));
+    return 0;
+}
+
 /* A step of the instruction at 4, in so many bytes of memory. */
 static const struct {
     uint32_t bits;
@@ -156,7 +179,7 @@ static int addresses(struct bench *b) {
     uint8_t memory[8] = {0};
     size_t i, at;
     memset(b->row, 0, sizeof b->row);
-    b->row[8 * 63 + 4] = 1;
+    b->row[8 * 63] = b->row[8 * 63 + 4] = 1;
     for (i = 0; i < sizeof steps / sizeof *steps; i++) {
         for (at = 0; at < 4; at++) memory[4 + at] = (uint8_t)(steps[i].bits >> (8 * at));
         start(b);
@@ -210,7 +233,7 @@ int main(void) {
     printf("card 1: %.*s\n", (int)length, (const char *)room);
     if (codes() || card_10(&b) || card_11(&b, 100) || card_12(&b) || card_11(&b, 3) || in_pieces(&b)) return 1;
     list(recipe, sizeof recipe);
-    if (addresses(&b)) return 1;
+    if (clear_and_trim(&b) || addresses(&b)) return 1;
     address_of_a_pause(&b);
     refusals(&b);
     return 0;

@@ -1,7 +1,8 @@
 //! A fuse row and its words.
 use crate::{Refusal, ROW, WORDS};
 
-/// A word of a row. A burnt one keeps its value for ever.
+/// A word of a row. A burnt one keeps its value for ever. A store of zero is no pulse: it leaves a blank
+/// word blank.
 ///
 /// ```
 /// use phuyurik::{Row, Word};
@@ -12,7 +13,7 @@ use crate::{Refusal, ROW, WORDS};
 pub enum Word {
     /// Not burnt yet; it reads as 0.
     Blank,
-    /// Burnt with this value.
+    /// Burnt with this value, which is not 0 in any row that is accepted.
     Burnt(u32),
 }
 
@@ -30,19 +31,20 @@ impl Word {
         }
     }
 
-    /// Whether it is burnt, be it with 0.
+    /// Whether it is burnt.
     ///
     /// ```
     /// use phuyurik::Word;
-    /// assert!(Word::Burnt(0).is_burnt() && !Word::Blank.is_burnt());
+    /// assert!(Word::Burnt(7).is_burnt() && !Word::Blank.is_burnt());
     /// ```
     pub const fn is_burnt(self) -> bool {
         matches!(self, Word::Burnt(_))
     }
 }
 
-/// A fuse row: 64 records of 8 bytes. Any 512 bytes may stand here: a row of which a record breaks
-/// its rules is refused by whatever would use it.
+/// A fuse row: 64 records of 8 bytes. A blank word is eight zeros; a burnt one its value, which is not
+/// zero, in four bytes, little-endian, then 1 and three zeros. Any 512 bytes may stand here: a row with
+/// another record is refused by whatever would use it.
 ///
 /// ```
 /// use phuyurik::{Row, Word, ROW};

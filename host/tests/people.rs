@@ -24,9 +24,9 @@ fn with_words(words: u32) -> Folder {
     folder
 }
 
-/// The first words, each burnt with its own number.
+/// The first words, each burnt with 100 more than its number.
 fn burnt(words: u32) -> Vec<u8> {
-    let words: Vec<(usize, u32)> = (0..words).map(|word| (word as usize, word)).collect();
+    let words: Vec<(usize, u32)> = (0..words).map(|word| (word as usize, 100 + word)).collect();
     row_of(&words)
 }
 
@@ -81,8 +81,8 @@ fn an_old_journal_copied_back_unburns_nothing() {
     folder.copy("old.journal", "part.row.journal");
     let words = [
         "part.row.journal",
-        "word 5 (burnt with 5) is blank",
-        "word 63 (burnt with 63) is blank",
+        "word 5 (burnt with 105) is blank",
+        "word 63 (burnt with 163) is blank",
         "settle",
     ];
     is_refused(&folder, "--slot 0 --budget 9", 9, &words);
@@ -121,7 +121,7 @@ fn a_journal_with_another_value_changes_none() {
         &folder,
         "--slot 0 --budget 9",
         9,
-        &["word 2 (burnt with 99) is 2"],
+        &["word 2 (burnt with 99) is 102"],
     );
     assert_eq!(folder.get("part.row"), other);
 }
@@ -138,7 +138,7 @@ fn an_old_row_brought_back_is_refused() {
     folder.copy("old.row", "part.row");
     let words = [
         "part.row: ",
-        "word 2 (burnt with 2) is blank, word 3 (burnt with 3) is blank",
+        "word 2 (burnt with 102) is blank, word 3 (burnt with 103) is blank",
         "--accept-row",
     ];
     is_refused(&folder, "--slot 0 --budget 9", 9, &words);
@@ -162,7 +162,7 @@ fn a_blanked_row_is_refused() {
         &folder,
         "--slot 0 --budget 9",
         9,
-        &["word 0 (burnt with 0) is blank"],
+        &["word 0 (burnt with 100) is blank"],
     );
     assert_eq!(folder.get("part.row"), vec![0; ROW]);
 }
@@ -178,9 +178,9 @@ fn swapped_rows_are_refused() {
     folder.copy("part.row", "swap");
     folder.copy("other.row", "part.row");
     folder.copy("swap", "other.row");
-    let words = ["word 1 (burnt with 1) is 77"];
+    let words = ["word 1 (burnt with 101) is 77"];
     is_refused(&folder, "--slot 0 --budget 9", 9, &words);
-    folder.fails(other, 9, &["other.row", "word 1 (burnt with 77) is 1"]);
+    folder.fails(other, 9, &["other.row", "word 1 (burnt with 77) is 101"]);
 }
 
 #[test]
@@ -188,7 +188,7 @@ fn an_exchanged_part_is_accepted_by_name() {
     let folder = with_words(4);
     assert_eq!(folder.run("--slot 0 --budget 8").code, 10);
     folder.write("part.row", &row_of(&[(0, 5)]));
-    let words = ["word 0 (burnt with 0) is 5, word 1 (burnt with 1) is blank"];
+    let words = ["word 0 (burnt with 100) is 5, word 1 (burnt with 101) is blank"];
     is_refused(&folder, "--slot 0 --budget 4", 9, &words);
     let accepted = folder.run("--slot 0 --budget 4 --accept-row");
     assert_eq!(accepted.code, 10, "{}", accepted.err);
@@ -196,13 +196,16 @@ fn an_exchanged_part_is_accepted_by_name() {
     assert!(accepted.err.contains(words[0]), "{}", accepted.err);
     // Of the words that the run burnt on the old part, none is on this one.
     let facts = "1 word burnt since the recipe's start, 1 of them in this run\n\
-                 word 2 burnt with 2 (0x00000002) in this run\n";
+                 word 2 burnt with 102 (0x00000066) in this run\n";
     assert!(accepted.out.ends_with(facts), "{}", accepted.out);
     // From now on it is this part that is known.
     assert_eq!(folder.run("--slot 0 --budget 100").code, 0);
-    assert_eq!(folder.get("part.row"), row_of(&[(0, 5), (2, 2), (3, 3)]));
+    assert_eq!(
+        folder.get("part.row"),
+        row_of(&[(0, 5), (2, 102), (3, 103)])
+    );
     folder.write("part.row", &burnt(4));
-    let words = ["word 0 (burnt with 5) is 0"];
+    let words = ["word 0 (burnt with 5) is 100"];
     is_refused(&folder, "--slot 0 --budget 4", 9, &words);
 }
 
@@ -217,12 +220,15 @@ fn a_run_paused_on_the_old_part_is_asked_for_itself() {
     assert_eq!(other.code, 10, "{}", other.err);
     for mode in ["", "--resume", "--dry-run"] {
         let line = run_line(&format!("--slot 0 --budget 9 {mode}"));
-        folder.fails(&line, 9, &["word 0 (burnt with 0) is blank"]);
+        folder.fails(&line, 9, &["word 0 (burnt with 100) is blank"]);
     }
     assert_eq!(folder.run("--slot 0 --budget 0 --accept-row").code, 10);
     // Once accepted it is this part's run.
     assert_eq!(folder.run("--slot 0 --budget 100 --resume").code, 0);
-    assert_eq!(folder.get("part.row"), row_of(&[(1, 1), (2, 2), (3, 3)]));
+    assert_eq!(
+        folder.get("part.row"),
+        row_of(&[(1, 101), (2, 102), (3, 103)])
+    );
 }
 
 // Point 3.
@@ -269,7 +275,7 @@ fn a_row_that_is_gone_is_no_new_part_either() {
     assert_eq!(folder.run("--slot 0 --budget 9").code, 0);
     folder.remove("part.row");
     let line = run_line("--slot 0 --budget 9 --new");
-    folder.fails(&line, 9, &["word 0 (burnt with 0) is blank"]);
+    folder.fails(&line, 9, &["word 0 (burnt with 100) is blank"]);
     assert!(!folder.has("part.row"));
     let accepted = folder.call(&format!("{line} --accept-row"));
     assert_eq!(accepted.code, 0, "{}", accepted.err);
@@ -445,7 +451,7 @@ fn a_paused_run_is_carried_on_and_given_up_only_by_name() {
     assert_eq!(other.code, 0, "{}", other.err);
     assert_eq!(
         folder.get("part.row"),
-        row_of(&[(0, 0), (1, 1), (2, 2), (20, 20)])
+        row_of(&[(0, 100), (1, 101), (2, 102), (20, 120)])
     );
     let line = run_line("--slot 0 --budget 9 --resume");
     folder.fails(&line, 7, &["another image"]);
@@ -468,7 +474,7 @@ fn a_restart_of_a_recipe_that_had_burnt_stops_at_its_first_word() {
 /// What is told of the end of a recipe of two words by a call that did nothing else.
 const END: &str = "retired 0 in this run\ncount 8\nstop 1: ecall\npc 32 (0x00000020)\n\
                    2 words burnt since the recipe's start, 0 of them in this run\n\
-                   word 0 burnt with 0 (0x00000000)\nword 1 burnt with 1 (0x00000001)\n";
+                   word 0 burnt with 100 (0x00000064)\nword 1 burnt with 101 (0x00000065)\n";
 const NOT_TOLD: &str = "phuyurik: note: the run in slot 0 had ended, and its end was not told\n";
 
 /// The recipe comes to its end, and its report cannot be written.
@@ -591,7 +597,7 @@ fn an_end_is_marked_as_told_only_where_it_is_still_the_slots_own() {
     held.try_lock().expect("free");
     let mut read = Vec::new();
     reader.read_to_end(&mut read).expect("read");
-    assert!(read.ends_with(b"word 1 burnt with 1 (0x00000001) in this run\n"));
+    assert!(read.ends_with(b"word 1 burnt with 101 (0x00000065) in this run\n"));
     assert_eq!(first.wait().expect("over").code(), Some(0));
     drop(held);
     tells_its_end(&folder);
@@ -845,7 +851,7 @@ fn without_locks_an_old_journal_overwrites_no_other_run() {
     let other = "run trim.bin --row other.row --slots line.slots --slot 0 --budget 6";
     assert_eq!(folder.call(other).code, 10);
     let before = slot_files(&folder);
-    let taken_back = "word 0 (burnt with 0) is blank";
+    let taken_back = "word 0 (burnt with 100) is blank";
     is_refused_for_slot(&folder, "old.journal", true, 9, taken_back);
     is_refused_for_slot(&folder, "old.journal", false, 9, taken_back);
     is_refused_for_slot(&folder, "last.journal", true, 7, "an old copy of a save");
@@ -1002,7 +1008,7 @@ fn a_resumed_run_tells_all_words_since_the_recipes_start() {
     let first = folder.run("--slot 0 --budget 4");
     assert!(first.out.ends_with(
         "1 word burnt since the recipe's start, 1 of them in this run\n\
-         word 0 burnt with 0 (0x00000000) in this run\n"
+         word 0 burnt with 100 (0x00000064) in this run\n"
     ));
     // What another slot's run burns meanwhile is not this recipe's.
     folder.write("other.bin", &burning(30, 1));
@@ -1011,9 +1017,9 @@ fn a_resumed_run_tells_all_words_since_the_recipes_start() {
     let second = folder.run("--slot 0 --budget 100");
     let facts = "retired 8 in this run\ncount 12\nstop 1: ecall\npc 48 (0x00000030)\n\
                  3 words burnt since the recipe's start, 2 of them in this run\n\
-                 word 0 burnt with 0 (0x00000000)\n\
-                 word 1 burnt with 1 (0x00000001) in this run\n\
-                 word 2 burnt with 2 (0x00000002) in this run\n";
+                 word 0 burnt with 100 (0x00000064)\n\
+                 word 1 burnt with 101 (0x00000065) in this run\n\
+                 word 2 burnt with 102 (0x00000066) in this run\n";
     assert_eq!((second.code, &*second.out), (0, facts));
 }
 
@@ -1037,7 +1043,8 @@ fn a_killed_run_tells_all_words_when_it_is_resumed() {
     assert!(resumed.out.contains(&head), "{head}{}", resumed.out);
     for word in 0..64 {
         let when = if word < before { "" } else { " in this run" };
-        let line = format!("\nword {word} burnt with {word} (0x{word:08x}){when}\n");
+        let value = 100 + word;
+        let line = format!("\nword {word} burnt with {value} (0x{value:08x}){when}\n");
         assert!(resumed.out.contains(&line), "{line}{}", resumed.out);
     }
 }
@@ -1050,7 +1057,7 @@ fn row_and_slot_show_what_a_pending_save_holds() {
     assert_eq!(folder.get("part.row"), vec![0; ROW]);
     let before = folder.snapshot();
     let row = folder.call("row part.row");
-    let text = "word  0 at 0x80000000: 0 (0x00000000)\n1 burnt, 63 blank\n";
+    let text = "word  0 at 0x80000000: 100 (0x00000064)\n1 burnt, 63 blank\n";
     assert_eq!((row.code, &*row.out), (0, text));
     assert!(
         row.err.contains("note: ") && row.err.contains("cut short"),
@@ -1159,10 +1166,10 @@ fn a_dry_run_tells_the_words_and_changes_no_file() {
     let dry = folder.run("--slot 0 --budget 100 --dry-run");
     let facts = "retired 7 in this run\ncount 12\nstop 1: ecall\npc 48 (0x00000030)\n\
                  1 word burnt since the recipe's start\n\
-                 word 0 burnt with 0 (0x00000000)\n\
+                 word 0 burnt with 100 (0x00000064)\n\
                  2 words would be burnt in this run\n\
-                 word 1 would be burnt with 1 (0x00000001)\n\
-                 word 2 would be burnt with 2 (0x00000002)\n\
+                 word 1 would be burnt with 101 (0x00000065)\n\
+                 word 2 would be burnt with 102 (0x00000066)\n\
                  dry run: no file was changed\n";
     assert_eq!((dry.code, &*dry.out), (0, facts));
     let paused = folder.run("--slot 0 --budget 1 --dry-run");
@@ -1189,7 +1196,7 @@ fn a_dry_run_makes_no_file_for_a_new_part() {
     assert_eq!(folder.run("--slot 3 --budget 9 --dry-run").code, 6);
     let dry = folder.run("--slot 3 --budget 9 --dry-run --new");
     assert_eq!(dry.code, 0, "{}", dry.err);
-    assert!(dry.out.contains("word 0 would be burnt with 0"));
+    assert!(dry.out.contains("word 0 would be burnt with 100"));
     folder.is_as(&before);
 }
 
@@ -1233,7 +1240,7 @@ fn a_dry_run_with_an_accepted_row_accepts_nothing() {
     folder.fails(
         &run_line("--slot 0 --budget 9"),
         9,
-        &["word 0 (burnt with 0) is blank"],
+        &["word 0 (burnt with 100) is blank"],
     );
 }
 

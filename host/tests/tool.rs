@@ -224,11 +224,18 @@ fn a_refusal_of_the_image_or_the_row_is_30_and_its_number() {
     for length in [0, 511, 513, 1024] {
         is_refused("part.row", &vec![0; length], 32, words);
     }
-    let words = "refusal 3: a row record breaks its rules";
-    for (at, byte) in [(0, 1), (4, 2), (5, 1), (511, 1)] {
+    let rules = [
+        (0, 1, "word 0: blank, with value 1"),
+        (4, 1, "word 0: mark 1 with value 0"),
+        (12, 2, "word 1: mark 2"),
+        (5, 1, "word 0: bytes 5 to 7 are not zero"),
+        (511, 1, "word 63: bytes 5 to 7 are not zero"),
+    ];
+    for (at, byte, rule) in rules {
         let mut row = [0; ROW];
         row[at] = byte;
-        is_refused("part.row", &row, 33, words);
+        let words = format!("refusal 3: a row record breaks its rules ({rule})");
+        is_refused("part.row", &row, 33, &words);
     }
 }
 

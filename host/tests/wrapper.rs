@@ -196,6 +196,42 @@ fn an_old_record_of_a_pause_goes_on() {
     assert_eq!((s.pc, s.count, row.word(0)), (10, 3, Word::Burnt(7)));
 }
 
+/// A word is blank, eight zeros, or burnt: a value other than zero, the mark 1 and three zeros.
+#[test]
+fn which_row_records_are_refused() {
+    let (blank, burnt) = ([0; 8], [7, 0, 0, 0, 1, 0, 0, 0]);
+    let mut records = vec![(blank, true), (burnt, true)];
+    records.extend([[0, 0, 0, 0, 1, 0, 0, 0], [7, 0, 0, 0, 2, 0, 0, 0]].map(|r| (r, false)));
+    for place in 0..4 {
+        let (mut with_mark, mut without) = (blank, blank);
+        (with_mark[place], with_mark[4], without[place]) = (128, 1, 128);
+        records.extend([(with_mark, true), (without, false)]);
+    }
+    for (place, mut record) in (5..8).flat_map(|place| [(place, blank), (place, burnt)]) {
+        record[place] = 1;
+        records.push((record, false));
+    }
+    for (record, is_sound) in records {
+        let (mut memory, mut slots) = (RECIPE, Slots::new([0; RECORD]));
+        let mut row = [burnt; WORDS].concat();
+        row[8 * 40..8 * 41].copy_from_slice(&record);
+        let mut lent = row.clone();
+        let mut board = Board::new(&mut memory, &mut lent);
+        let answers = [
+            board.step(&mut State::fresh()),
+            board.run(&mut State::fresh(), 9).map(|_| ()),
+            board.run_slot(&mut slots, 0, 0).map(|_| ()),
+        ];
+        let answer = if is_sound {
+            Ok(())
+        } else {
+            refused(Refusal::RowRecord)
+        };
+        assert_eq!(answers, [answer; 3], "{record:?}");
+        assert_eq!((lent, memory), (row, RECIPE));
+    }
+}
+
 #[test]
 fn refusals_carry_the_papers_words() {
     let mut row = [0; ROW];

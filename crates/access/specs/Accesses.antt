@@ -1,9 +1,7 @@
 -- What a load or a store comes to, on the board b: main memory and the fuse row.
 use Prim.Native.Nat.{ℕ}
-use mathlib.Core.Bool.{cond}
 use mathlib.Core.List.{List}
 use lib.ListN.{length}
-use lib.Dec.{eqb}
 use Rattle.word.specs.Bits.{sext}
 use Rattle.answers.specs.Outcomes.{Outcome, outcome}
 use Rattle.answers.specs.Stops.{cause}
@@ -21,7 +19,9 @@ use Rattle.octets.specs.declared.Width.the-variants.{One, Two, Four}
 use Rattle.place.specs.Map.{placed}
 use Rattle.place.specs.declared.Place.{Place}
 use Rattle.place.specs.declared.Place.the-variants.{Memory, Fuse, Misaligned, Outside}
-use Rattle.fuses.specs.Row.{valueAt, markAt, burnt}
+use Rattle.fuses.specs.Row.{valueAt, wordStored}
+use Rattle.fuses.specs.declared.Stored.{Stored}
+use Rattle.fuses.specs.declared.Stored.the-variants as F
 use Rattle.boards.specs.Boards.{Board, board}
 use Rattle.access.specs.declared.Effect.{Effect}
 use Rattle.access.specs.declared.Effect.the-variants.{Next, Halt}
@@ -72,14 +72,19 @@ storeWidth Sw = Four
 abbrev pub onTo : ℕ → Effect
 onTo next = Next x0 0 next
 
--- to word k of the row f, at the address a: a blank word is burnt with v, also with 0; at a burnt word it stops
-unfoldable pub storedWord : ℕ → ℕ → ℕ → ℕ → List ℕ → Outcome Effect (List ℕ)
-storedWord k v a next f = cond (eqb (markAt k f) 0) (outcome (onTo next) (burnt k v f)) (outcome (Halt (cause AlreadyBurnt a)) f)
+-- what comes of a store to a word of the row at the address a: at a burnt word it stops
+abbrev pub ofStored : Stored → ℕ → ℕ → Effect
+ofStored F.Done a next = onTo next
+ofStored F.AlreadyBurnt a next = Halt (cause AlreadyBurnt a)
+
+-- to word k of the row f, at the address a
+unfoldable pub storedInRow : ℕ → ℕ → ℕ → ℕ → List ℕ → Outcome Effect (List ℕ)
+storedInRow k v a next f = outcome (ofStored (wordStored k v f .answer) a next) (wordStored k v f .lent)
 
 -- v goes to the place of the address a: into memory, or to a word of the row
 unfoldable pub storedTo : Place → StoreOp → ℕ → ℕ → ℕ → Board → Done
 storedTo (Memory i) o v a next b = outcome (onTo next) (board (store (widthBytes (storeWidth o)) i v (b .mem)) (b .row))
-storedTo (Fuse k) o v a next b = outcome (storedWord k v a next (b .row) .answer) (board (b .mem) (storedWord k v a next (b .row) .lent))
+storedTo (Fuse k) o v a next b = outcome (storedInRow k v a next (b .row) .answer) (board (b .mem) (storedInRow k v a next (b .row) .lent))
 storedTo Misaligned o v a next b = outcome (Halt (cause StoreMisaligned a)) b
 storedTo Outside o v a next b = outcome (Halt (cause StoreOutside a)) b
 

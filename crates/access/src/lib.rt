@@ -1,8 +1,8 @@
 // Loads and stores: where the access lies, and what it does there.
 use answers::Cause;
 use answers::Stop;
-use fuses::burn;
-use fuses::is_burnt;
+use fuses::Stored;
+use fuses::store_word;
 use fuses::value_of;
 use isa::LoadOp;
 use isa::Reg;
@@ -22,7 +22,7 @@ ghost use Rattle.octets.specs.Bytes.{load};
 ghost use Rattle.octets.specs.Widths.{widthBytes};
 ghost use Rattle.answers.specs.Outcomes.{outcome};
 ghost use Rattle.boards.specs.Boards.{board};
-ghost use Rattle.access.specs.Accesses.{loadWidth, extended, loaded, onTo, storeWidth, storedWord, stored};
+ghost use Rattle.access.specs.Accesses.{loadWidth, extended, loaded, onTo, storeWidth, storedInRow, stored};
 
 // What an instruction does: a register gets a value and the next instruction is at pc, or the run stops.
 pub enum Effect {
@@ -106,20 +106,19 @@ fn on_to(next: u32) -> Effect
 }
 
 // A store of v to word k of the row, which stands at an address.
-fn store_word(row: &mut [u8], k: usize, v: u32, address: u32, next: u32) -> Effect
+fn store_in_row(row: &mut [u8], k: usize, v: u32, address: u32, next: u32) -> Effect
     requires { ⌜ k < 64 ⌝ }
     requires { ⌜ length (now row) ≡ 512 ⌝ }
-    ensures { λ r. ⌜ outcome r (now (row .exit)) ≡ storedWord k v address next (now (row .entry)) ⌝ }
+    ensures { λ r. ⌜ outcome r (now (row .exit)) ≡ storedInRow k v address next (now (row .entry)) ⌝ }
 {
-    if is_burnt(row, k) {
-        let why = Cause {
+    let stored = store_word(row, k, v);
+    match stored {
+        Stored::Done => on_to(next),
+        Stored::AlreadyBurnt => Effect::Halt(Cause {
             stop: Stop::AlreadyBurnt,
             address,
-        };
-        return Effect::Halt(why);
+        }),
     }
-    burn(row, k, v);
-    on_to(next)
 }
 
 // A store of v at an address, before the instruction at next.
@@ -134,7 +133,7 @@ pub fn store(op: StoreOp, v: u32, address: u32, next: u32, mem: &mut [u8], row: 
             store_of(mem, at, width, v);
             on_to(next)
         }
-        Place::Fuse(k) => store_word(row, k, v, address, next),
+        Place::Fuse(k) => store_in_row(row, k, v, address, next),
         Place::Misaligned => Effect::Halt(Cause {
             stop: Stop::StoreMisaligned,
             address,

@@ -9,6 +9,7 @@ use Rattle.answers.specs.declared.Refusal.{Refusal}
 use Rattle.answers.specs.declared.Refusal.the-variants.{MemoryTooLong, RowLength, RowRecord}
 use Rattle.answers.specs.declared.Check.{Check}
 use Rattle.answers.specs.declared.Check.the-variants.{Passed, Refused}
+use Rattle.word.specs.Bits.{low}
 use Rattle.octets.specs.Bytes.{store}
 use Rattle.octets.proofs.Bytes.{length-store, store-below}
 use Rattle.fuses.specs.Row.{allKeep, Row, burnt}
@@ -50,8 +51,8 @@ sound-store n i v b inside g = (
   record { short = rw (length-store n i v (b .mem) inside) (g .1 .short); row = g .1 .row },
 )
 
-pub sound-burnt : (k v : ℕ) (b : Board) → k < 64 → SoundBoard b → SoundBoard (board (b .mem) (burnt k v (b .row)))
-sound-burnt k v b h g = (
+pub sound-burnt : (k v : ℕ) (b : Board) → k < 64 → (low 32 v ≡ 0 → ⊥) → SoundBoard b → SoundBoard (board (b .mem) (burnt k v (b .row)))
+sound-burnt k v b h ne g = (
   record { mem-bytes = g .0 .mem-bytes; row-bytes = burnt-below k v (b .row) (g .0 .row-bytes) },
-  record { short = g .1 .short; row = row-burnt k v (b .row) h (g .1 .row) },
+  record { short = g .1 .short; row = row-burnt k v (b .row) h ne (g .1 .row) },
 )

@@ -32,7 +32,7 @@ use Rattle.access.specs.Accesses.{Done, storeWidth}
 use Rattle.execute.specs.declared.Act.{Act}
 use Rattle.execute.specs.declared.Act.the-variants.{Sets, Loads, Stores, Ends}
 use Rattle.execute.specs.Execution.{evened, actOf}
-use Rattle.execute.proofs.Acts.{Comes, sets, loads, into-memory, into-row, stops, StopsBy}
+use Rattle.execute.proofs.Acts.{Comes, sets, loads, into-memory, into-row, zero-into-row, stops, StopsBy}
 use Rattle.fetch.proofs.Laws.{FailsBy, fetch-fails, fetched-real}
 use Rattle.engine.specs.Steps.{World, Sized, checked, asked, applied, after, stepped, ran}
 use Rattle.engine.proofs.Walk.{by-asked, walk}
@@ -126,8 +126,9 @@ module _ (w : World) (g : Runnable w) where
   runnable-after (loads o rd a pc v fits) h = (advanced-sound rd v pc (w .st) (fits (g .1 .0)) (h .1 .0) (h .1 .1) (g .0), g .1)
   runnable-after (into-memory o v a pc i e inside) h =
       (advanced-sound x0 0 pc (w .st) (omega arith) (h .1 .0) (h .1 .1) (g .0), sound-store (widthBytes (storeWidth o)) i v (w .board) inside (g .1))
-  runnable-after (into-row o v a pc k e below z) h =
-      (advanced-sound x0 0 pc (w .st) (omega arith) (h .1 .0) (h .1 .1) (g .0), sound-burnt k v (w .board) below (g .1))
+  runnable-after (into-row o v a pc k e below z ne) h =
+      (advanced-sound x0 0 pc (w .st) (omega arith) (h .1 .0) (h .1 .1) (g .0), sound-burnt k v (w .board) below ne (g .1))
+  runnable-after (zero-into-row o v a pc k e z) h = (advanced-sound x0 0 pc (w .st) (omega arith) (h .1 .0) (h .1 .1) (g .0), g .1)
   runnable-after (stops a why by) h = (halted-sound why (w .st) (stop-fits a why by h) (g .0), g .1)
 
   runnable-step : Runnable (stepped w)

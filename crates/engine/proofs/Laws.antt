@@ -22,7 +22,7 @@ use Rattle.access.specs.declared.Effect.{Effect}
 use Rattle.access.specs.declared.Effect.the-variants.{Next, Halt}
 use Rattle.execute.specs.declared.Act.{Act}
 use Rattle.execute.specs.Execution.{performed}
-use Rattle.execute.proofs.Acts.{Comes, sets, loads, into-memory, into-row, stops, StopsBy}
+use Rattle.execute.proofs.Acts.{Comes, sets, loads, into-memory, into-row, zero-into-row, stops, StopsBy}
 use Rattle.engine.specs.Steps.{World, world, actAt, asked, applied, after, paused, stepped, ran, goesOn, completes, retired}
 use Rattle.engine.proofs.Walk.{walk}
 
@@ -89,7 +89,8 @@ clean : {b : Board} {a : Act} {d : Done} → Comes b a d → goesOn (d .answer) 
 clean (sets rd v pc) e = absurd (omega (arith, ap flag e))
 clean (loads o rd a pc v h) e = absurd (omega (arith, ap flag e))
 clean (into-memory o v a pc i p h) e = absurd (omega (arith, ap flag e))
-clean (into-row o v a pc k p h z) e = absurd (omega (arith, ap flag e))
+clean (into-row o v a pc k p h z ne) e = absurd (omega (arith, ap flag e))
+clean (zero-into-row o v a pc k p z) e = absurd (omega (arith, ap flag e))
 clean (stops a why h) e = (why, h, refl)
 
 pub stops-with : (w : World) → paused w ≡ true → completes w ≡ false → (why : Cause) × StopsBy (asked w) why × (stepped w ≡ world (halted why (w .st)) (w .board))

@@ -1,13 +1,11 @@
--- What comes of an act, in five ways, by cases over the place of its access. The laws of a step go by these ways. Assumes nothing.
+-- What comes of an act, in six ways, by cases over the place of its access. The laws of a step go by these ways. Assumes nothing.
 use mathlib.Core.Path.{_≡_, refl}
-use mathlib.Core.Bool.{Bool, true, false, cond}
 use mathlib.Core.List.{List}
 use mathlib.Core.Logic.{_⊎_, inl, inr}
 use Prim.Native.Nat.{ℕ, _+_, _*_, _^_, _≤_, _<_}
 use lib.ListN.{length}
-use lib.Dec.{eqb}
-use borrow.Author.Tests.{eqb-true}
 use Rattle.answers.specs.Outcomes.{Outcome, outcome}
+use Rattle.word.specs.Bits.{low}
 use Rattle.answers.specs.Stops.{cause, nowhere}
 use Rattle.answers.specs.declared.Cause.{Cause}
 use Rattle.answers.specs.declared.Stop.the-variants as S
@@ -22,11 +20,12 @@ use Rattle.octets.proofs.Bytes.{load-lt}
 use Rattle.place.specs.declared.Place.{Place}
 use Rattle.place.specs.declared.Place.the-variants.{Memory, Fuse, Misaligned, Outside}
 use Rattle.place.proofs.Placed.{placed-memory, placed-fuse}
-use Rattle.fuses.specs.Row.{markAt, burnt}
+use Rattle.fuses.specs.Row.{markAt, burnt, wordStored}
+use Rattle.fuses.specs.declared.Stored.{Stored}
+use Rattle.fuses.proofs.Burning.{WordStores, burns, no-pulse, refused, stores-as}
 use Rattle.boards.specs.Boards.{Board, board, BoardFits}
-use Rattle.access.specs.declared.Effect.{Effect}
 use Rattle.access.specs.declared.Effect.the-variants.{Next, Halt}
-use Rattle.access.specs.Accesses.{Done, loadWidth, loadedFrom, loadPlace, storeWidth, onTo, storedWord, storedTo, storePlace}
+use Rattle.access.specs.Accesses.{Done, loadWidth, loadedFrom, loadPlace, storeWidth, onTo, ofStored, storedInRow, storedTo, storePlace}
 use Rattle.access.proofs.Places.{extended-lt}
 use Rattle.execute.specs.declared.Act.{Act}
 use Rattle.execute.specs.declared.Act.the-variants.{Sets, Loads, Stores, Ends}
@@ -46,8 +45,10 @@ pub data Comes (b : Board) : Act → Done → Type 0 where
   loads : (o : LoadOp) (rd : Reg) (a pc v : ℕ) → (BoardFits b → v < 2 ^ 32) → Comes b (Loads o rd a pc) (outcome (Next rd v pc) b)
   into-memory : (o : StoreOp) (v a pc i : ℕ) → storePlace o a b ≡ Memory i → i + widthBytes (storeWidth o) ≤ length (b .mem)
       → Comes b (Stores o v a pc) (outcome (onTo pc) (board (store (widthBytes (storeWidth o)) i v (b .mem)) (b .row)))
-  into-row : (o : StoreOp) (v a pc k : ℕ) → storePlace o a b ≡ Fuse k → k < 64 → markAt k (b .row) ≡ 0
+  into-row : (o : StoreOp) (v a pc k : ℕ) → storePlace o a b ≡ Fuse k → k < 64 → markAt k (b .row) ≡ 0 → (low 32 v ≡ 0 → ⊥)
       → Comes b (Stores o v a pc) (outcome (onTo pc) (board (b .mem) (burnt k v (b .row))))
+  -- zero to a word of the row
+  zero-into-row : (o : StoreOp) (v a pc k : ℕ) → storePlace o a b ≡ Fuse k → low 32 v ≡ 0 → Comes b (Stores o v a pc) (outcome (onTo pc) b)
   stops : (a : Act) (why : Cause) → StopsBy a why → Comes b a (outcome (Halt why) b)
 
 module _ (b : Board) where
@@ -59,16 +60,14 @@ module _ (b : Board) where
   load-comes Outside o rd a pc = stops (Loads o rd a pc) (cause S.LoadOutside a) (inr refl)
 
   store-comes : (p : Place) (o : StoreOp) (v a pc : ℕ) → storePlace o a b ≡ p → Comes b (Stores o v a pc) (storedTo p o v a pc b)
-  unfolding storedTo storedWord
+  unfolding storedTo storedInRow
   store-comes (Memory i) o v a pc e = into-memory o v a pc i e (placed-memory _ a _ i e .1)
-  store-comes (Fuse k) o v a pc e = go (eqb (markAt k (b .row)) 0) refl
+  store-comes (Fuse k) o v a pc e = go (stores-as k v (b .row))
     where
-      word : Bool → Outcome Effect (List ℕ)
-      word t = cond t (outcome (onTo pc) (burnt k v (b .row))) (outcome (Halt (cause S.AlreadyBurnt a)) (b .row))
-
-      go : (t : Bool) → eqb (markAt k (b .row)) 0 ≡ t → Comes b (Stores o v a pc) (outcome (word t .answer) (board (b .mem) (word t .lent)))
-      go true z = into-row o v a pc k e (placed-fuse _ a _ k e) (eqb-true _ _ z)
-      go false z = stops (Stores o v a pc) (cause S.AlreadyBurnt a) (inr (inr refl))
+      go : {d : Outcome Stored (List ℕ)} → WordStores k v (b .row) d → Comes b (Stores o v a pc) (outcome (ofStored (d .answer) a pc) (board (b .mem) (d .lent)))
+      go (burns z ne) = into-row o v a pc k e (placed-fuse _ a _ k e) z ne
+      go (no-pulse z) = zero-into-row o v a pc k e z
+      go refused = stops (Stores o v a pc) (cause S.AlreadyBurnt a) (inr (inr refl))
   store-comes Misaligned o v a pc e = stops (Stores o v a pc) (cause S.StoreMisaligned a) (inl refl)
   store-comes Outside o v a pc e = stops (Stores o v a pc) (cause S.StoreOutside a) (inr (inl refl))
 

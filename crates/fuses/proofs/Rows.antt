@@ -3,12 +3,12 @@ use Prim.Native.Nat.{ℕ, zero, suc, _+_, _*_, _<_}
 use native.Mathlib.Nat.{eq-or-lt-of-le}
 use native.Mathlib.Omega.{arith}
 use mathlib.Core.Path.{_≡_, refl, _∙_}
-use mathlib.Core.Bool.{Bool, true, false, _&&_, _||_, and-false}
+use mathlib.Core.Bool.{Bool, true, false, not, _&&_, _||_, and-false}
 use mathlib.Core.List.{List}
 use mathlib.Core.Logic.{_↔_, ⊎-elim}
 use lib.ListN.{length}
-use lib.Dec.{eqb, ltb}
-use borrow.Author.Tests.{ne-eqb, le-ltb}
+use lib.Dec.{eqb}
+use borrow.Author.Tests.{ne-eqb}
 use Rattle.octets.specs.Bytes.{load, store}
 use Rattle.octets.proofs.Bytes.{load-add, length-store}
 use Rattle.fuses.specs.Row.{valueAt, markAt, restAt, keepsRules, allKeep, burnt}
@@ -21,18 +21,13 @@ length-burnt k v row h l =
 
 -- u stands for the upper half
 rules : (value mark rest u : ℕ) → u ≡ mark + rest * 256
-    → (eqb u 1 || (eqb u 0 && eqb value 0)) ≡ (ltb mark 2 && (eqb rest 0 && (eqb mark 1 || eqb value 0)))
-rules value zero zero u e = rw e
-rules value zero (suc n) u e =
+    → ((eqb u 1 && not (eqb value 0)) || (eqb u 0 && eqb value 0)) ≡ (eqb rest 0 && ((eqb mark 1 && not (eqb value 0)) || (eqb mark 0 && eqb value 0)))
+rules value mark zero u e = let q : u ≡ mark = omega arith in rw q
+rules value mark (suc n) u e =
     rw (ne-eqb (suc n) 0 (λ z. omega arith), ne-eqb u 1 (λ z. omega arith), ne-eqb u 0 (λ z. omega arith))
-rules value (suc zero) zero u e = rw e
-rules value (suc zero) (suc n) u e =
-    rw (ne-eqb (suc n) 0 (λ z. omega arith), ne-eqb u 1 (λ z. omega arith), ne-eqb u 0 (λ z. omega arith))
-rules value (suc (suc m)) rest u e =
-    rw (le-ltb (suc (suc m)) 2 (omega arith), ne-eqb u 1 (λ z. omega arith), ne-eqb u 0 (λ z. omega arith))
 
 pub upper-rules : (k : ℕ) (row : List ℕ) → k < 64 → length row ≡ 512
-    → (eqb (load 4 (8 * k + 4) row) 1 || (eqb (load 4 (8 * k + 4) row) 0 && eqb (valueAt k row) 0)) ≡ keepsRules k row
+    → ((eqb (load 4 (8 * k + 4) row) 1 && not (eqb (valueAt k row) 0)) || (eqb (load 4 (8 * k + 4) row) 0 && eqb (valueAt k row) 0)) ≡ keepsRules k row
 upper-rules k row h l =
     let a : 8 * k + 4 + 1 ≡ 8 * k + 5 = omega arith in
     rules (valueAt k row) (markAt k row) (restAt k row) (load 4 (8 * k + 4) row) (rw a at (load-add 1 3 (8 * k + 4) row (omega arith)))

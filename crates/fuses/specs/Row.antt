@@ -1,15 +1,18 @@
 -- The fuse row: 64 records of 8 bytes, no header. Bytes 0 to 3 hold the value, byte 4 the mark (0 blank, 1 burnt), bytes 5 to 7 zero.
 use Prim.Native.Nat.{ℕ, zero, suc, _+_, _*_}
-use mathlib.Core.Bool.{Bool, true, _&&_, _||_}
+use mathlib.Core.Bool.{Bool, true, cond, not, _&&_, _||_}
 use mathlib.Core.Path.{_≡_}
 use mathlib.Core.List.{List}
 use lib.ListN.{length}
-use lib.Dec.{eqb, ltb}
-use Rattle.word.specs.Bits.{flag}
+use lib.Dec.{eqb}
+use Rattle.word.specs.Bits.{flag, low}
 use Rattle.octets.specs.Bytes.{load, store}
 use Rattle.answers.specs.Checks.{unless}
+use Rattle.answers.specs.Outcomes.{Outcome, outcome}
 use Rattle.answers.specs.declared.Check.{Check}
 use Rattle.answers.specs.declared.Refusal.the-variants.{RowLength, RowRecord}
+use Rattle.fuses.specs.declared.Stored.{Stored}
+use Rattle.fuses.specs.declared.Stored.the-variants.{Done, AlreadyBurnt}
 
 -- word k of the row
 abbrev pub valueAt : ℕ → List ℕ → ℕ
@@ -21,9 +24,9 @@ markAt k row = load 1 (8 * k + 4) row
 abbrev pub restAt : ℕ → List ℕ → ℕ
 restAt k row = load 3 (8 * k + 5) row
 
--- its record keeps the rules: the mark is 0 or 1, bytes 5 to 7 are zero, and a blank word has value 0
+-- its record keeps the rules: bytes 5 to 7 are zero, and it is burnt, mark 1, with a value other than zero, or blank, mark 0, with value 0
 abbrev pub keepsRules : ℕ → List ℕ → Bool
-keepsRules k row = ltb (markAt k row) 2 && (eqb (restAt k row) 0 && (eqb (markAt k row) 1 || eqb (valueAt k row) 0))
+keepsRules k row = eqb (restAt k row) 0 && ((eqb (markAt k row) 1 && not (eqb (valueAt k row) 0)) || (eqb (markAt k row) 0 && eqb (valueAt k row) 0))
 
 -- so do the first n records
 unfoldable pub allKeep : ℕ → List ℕ → Bool
@@ -41,6 +44,10 @@ rowChecked row rest = unless (eqb (length row) 512) RowLength (unless (allKeep 6
 -- word k burnt with v: the value stored and the mark set
 unfoldable pub burnt : ℕ → ℕ → List ℕ → List ℕ
 burnt k v row = store 1 (8 * k + 4) 1 (store 4 (8 * k) v row)
+
+-- a store of v to word k: a burnt word takes none, whatever v is; to a blank word 0 gives no pulse, and the row stays as it was
+unfoldable pub wordStored : ℕ → ℕ → List ℕ → Outcome Stored (List ℕ)
+wordStored k v row = cond (eqb (markAt k row) 0) (outcome Done (cond (eqb (low 32 v) 0) row (burnt k v row))) (outcome AlreadyBurnt row)
 
 -- how many of the first n words are burnt
 unfoldable pub burntWords : ℕ → List ℕ → ℕ

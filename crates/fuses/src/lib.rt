@@ -10,8 +10,15 @@ ghost use mathlib.Core.Bool.{not};
 ghost use Prim.Native.Nat.{_*_, _<_};
 ghost use lib.Dec.{eqb};
 ghost use lib.ListN.{length};
+ghost use Rattle.answers.specs.Outcomes.{outcome};
 ghost use Rattle.answers.specs.declared.Check.the-variants.{Passed};
-ghost use Rattle.fuses.specs.Row.{valueAt, markAt, keepsRules, allKeep, rowChecked, burnt};
+ghost use Rattle.fuses.specs.Row.{valueAt, markAt, keepsRules, allKeep, rowChecked, burnt, wordStored};
+
+// What comes of a store to a word.
+pub enum Stored {
+    Done,
+    AlreadyBurnt,
+}
 
 // The value of word k.
 pub fn value_of(row: &[u8], k: usize) -> u32
@@ -22,7 +29,7 @@ pub fn value_of(row: &[u8], k: usize) -> u32
     load4(row, 8 * k)
 }
 
-pub fn is_burnt(row: &[u8], k: usize) -> bool
+fn is_burnt(row: &[u8], k: usize) -> bool
     requires { ⌜ k < 64 ⌝ }
     requires { ⌜ length (now row) ≡ 512 ⌝ }
     ensures { λ r. ⌜ r ≡ not (eqb (markAt k (now (row .entry))) 0) ⌝ }
@@ -31,13 +38,29 @@ pub fn is_burnt(row: &[u8], k: usize) -> bool
 }
 
 // Word k burnt with v.
-pub fn burn(row: &mut [u8], k: usize, v: u32)
+fn burn(row: &mut [u8], k: usize, v: u32)
     requires { ⌜ k < 64 ⌝ }
     requires { ⌜ length (now row) ≡ 512 ⌝ }
     ensures { λ _. ⌜ now (row .exit) ≡ burnt k v (now (row .entry)) ⌝ }
 {
     store4(row, 8 * k, v);
     store1(row, 8 * k + 4, 1);
+}
+
+// A store of v to word k. A burnt word takes none; a blank one gets no pulse by 0, and stays blank.
+pub fn store_word(row: &mut [u8], k: usize, v: u32) -> Stored
+    requires { ⌜ k < 64 ⌝ }
+    requires { ⌜ length (now row) ≡ 512 ⌝ }
+    ensures { λ r. ⌜ outcome r (now (row .exit)) ≡ wordStored k v (now (row .entry)) ⌝ }
+{
+    if is_burnt(row, k) {
+        return Stored::AlreadyBurnt;
+    }
+    if v == 0 {
+        return Stored::Done;
+    }
+    burn(row, k, v);
+    Stored::Done
 }
 
 // Whether the record of word k keeps the rules. Its upper half, the mark and three zero bytes, is 1 where it is burnt; a blank record is 0.
@@ -48,7 +71,7 @@ fn keeps_rules(row: &[u8], k: usize) -> bool
 {
     let value = load4(row, 8 * k);
     let upper = load4(row, 8 * k + 4);
-    (upper == 1) | ((upper == 0) & (value == 0))
+    ((upper == 1) & (value != 0)) | ((upper == 0) & (value == 0))
 }
 
 fn all_keep(row: &[u8]) -> bool

@@ -1,23 +1,32 @@
 -- The promises of burning: a step leaves the row or burns one blank word of it, whatever it asks for; so what steps, runs and starts do to a row is one record of facts, which joins along the way. Each promise is one of its facts.
 -- Assumes nothing.
-use mathlib.Core.Bool.{_&&_}
+use mathlib.Core.Path.{_≡_, refl, sym, ap, _∙_}
+use mathlib.Core.Bool.{true, false, _&&_}
+use native.Mathlib.Omega.{arith}
+use borrow.Author.Tests.{eq-eqb, ne-eqb}
 use mathlib.Core.List.{List, [], _∷_}
-use Prim.Native.Nat.{ℕ, zero, suc}
+use Prim.Native.Nat.{ℕ, zero, suc, _+_}
 use lib.Dec.{eqb}
-use Rattle.answers.specs.Outcomes.{decided}
+use Rattle.answers.specs.Outcomes.{outcome, decided}
 use Rattle.answers.specs.declared.Check.{Check}
 use Rattle.answers.specs.declared.Check.the-variants.{Passed, Refused}
 use Rattle.word.proofs.Bools.{flag-le}
-use Rattle.fuses.specs.Row.{markAt, Row}
-use Rattle.fuses.proofs.Burning.{RowStep, stays, burning, Leads, at-rest, join, by-step}
+use Rattle.word.specs.Bits.{flag, low}
+use Rattle.fuses.specs.Row.{markAt, wordStored, Row}
+use Rattle.fuses.proofs.Burning.{RowStep, stays, burning, Leads, at-rest, join, by-step, step-leaves, row-not-zero}
 use Rattle.boards.specs.Boards.{Board}
-use Rattle.access.specs.Accesses.{Done}
+use Rattle.answers.specs.Stops.{cause}
+use Rattle.answers.specs.declared.Stop.the-variants.{AlreadyBurnt}
+use Rattle.place.specs.declared.Place.the-variants.{Fuse}
+use Rattle.access.specs.declared.Effect.the-variants.{Halt}
+use Rattle.access.specs.Accesses.{Done, onTo, storedInRow, storedTo}
+use Rattle.execute.specs.Execution.{performed}
 use Rattle.execute.specs.declared.Act.{Act}
-use Rattle.execute.proofs.Acts.{Comes, sets, loads, into-memory, into-row, stops}
-use Rattle.engine.specs.Steps.{World, checked, asked, stepped, ran, goesOn}
+use Rattle.execute.proofs.Acts.{Comes, sets, loads, into-memory, into-row, zero-into-row, stops}
+use Rattle.engine.specs.Steps.{World, checked, asked, stepDone, applied, stepped, ran, goesOn}
 use Rattle.engine.proofs.Walk.{walk}
 use Rattle.machine.specs.Entries.{runGiven, noRun, runEntry}
-use Rattle.promises.specs.Burning.{storesThere, burns, storesIn, turnsIn, Start, begun, rowAfter, ifRun, storesOver, turnsOver, StaysARow, BurntOnce, KeepsValue, KeepsValueInRun, NewlyBurnt}
+use Rattle.promises.specs.Burning.{storesThere, burns, storesIn, turnsIn, Start, begun, rowAfter, ifRun, storesOver, turnsOver, StaysARow, BurntOnce, KeepsValue, KeepsValueInRun, BurntNotZero, NewlyBurnt, StoresTo, ZeroIsNoPulse, BurntStops, ClearingBurnsNothing}
 
 -- ---- one step
 
@@ -25,7 +34,8 @@ row-comes : {b : Board} {a : Act} {d : Done} → Comes b a d → RowStep (b .row
 row-comes (sets rd v pc) = stays
 row-comes (loads o rd a pc v h) = stays
 row-comes (into-memory o v a pc i e h) = rw e stays
-row-comes (into-row o v a pc k e h z) = rw e (burning k v h z)
+row-comes (into-row o v a pc k e h z ne) = rw (e, ne-eqb (low 32 v) 0 ne) (burning k v h z ne)
+row-comes (zero-into-row o v a pc k e z) = rw (e, eq-eqb (low 32 v) 0 z) stays
 row-comes (stops a why by) = stays
 
 row-step : (w : World) → RowStep (w .board .row) (burns w) (stepped w .board .row)
@@ -55,7 +65,9 @@ by-starts k (e ∷ es) f r =
 -- ---- the promises
 
 pub stays-a-row : StaysARow
-stays-a-row es f r = by-starts 0 es f r .row
+stays-a-row es f r =
+    let g = by-starts 0 es f r .row in
+    (g, rw (eq-eqb _ 512 (g .0), g .1))
 
 pub burnt-once : BurntOnce
 burnt-once es f k r l = rw (by-starts k es f r .mark) (flag-le (eqb (markAt k (rowAfter es f)) 1))
@@ -66,5 +78,33 @@ keeps-value es f k r l e = by-starts k es f r .keeps e
 pub keeps-value-in-run : KeepsValueInRun
 keeps-value-in-run n w k r l e = by-steps k n w r .keeps e
 
+pub burnt-not-zero : BurntNotZero
+burnt-not-zero es f k r l = row-not-zero k (rowAfter es f) (by-starts 0 es f r .row) l
+
 pub newly-burnt : NewlyBurnt
 newly-burnt es f r = by-starts 0 es f r .words
+
+-- ---- a store to a word
+
+module _ {w : World} {k v : ℕ} (s : StoresTo w k v) where
+  done : stepDone w ≡ storedTo (Fuse k) (s .o) v (s .a) (s .next) (w .board)
+  unfolding performed
+  done = rw (s .asks, s .there)
+
+pub zero-is-no-pulse : ZeroIsNoPulse
+unfolding storedTo storedInRow wordStored stepped applied
+zero-is-no-pulse w k v s z m =
+    let d : stepDone w ≡ outcome (onTo (s .next)) (w .board) = done s ∙ rw (eq-eqb _ 0 m, eq-eqb _ 0 z) in
+    rw (s .goes, d) (refl, refl, refl)
+
+pub burnt-stops : BurntStops
+unfolding storedTo storedInRow wordStored stepped applied
+burnt-stops w k v s m =
+    let d : stepDone w ≡ outcome (Halt (cause AlreadyBurnt (s .a))) (w .board) = done s ∙ rw m in
+    rw (s .goes, d) (refl, refl, refl)
+
+pub clearing-burns-nothing : ClearingBurnsNothing
+unfolding ran storesIn
+clearing-burns-nothing zero w e = refl
+clearing-burns-nothing (suc n) w e =
+    clearing-burns-nothing n (stepped w) (omega arith) ∙ step-leaves (row-step w) (omega arith)

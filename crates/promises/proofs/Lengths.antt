@@ -5,11 +5,8 @@ use mathlib.Core.Bool.{Bool, true, false, cond, not}
 use mathlib.Core.List.{List}
 use Prim.Native.Nat.{ℕ, _+_, _%_}
 use native.Mathlib.Omega.{arith}
-use lib.Dec.{eqb}
 use borrow.Author.Tests.{le-leb}
-use Rattle.answers.specs.Outcomes.{Outcome, outcome}
-use Rattle.answers.specs.Stops.{cause}
-use Rattle.answers.specs.declared.Stop.the-variants.{AlreadyBurnt}
+use Rattle.answers.specs.Outcomes.{outcome}
 use Rattle.answers.proofs.Order.{apart}
 use Rattle.isa.specs.declared.Reg.{Reg}
 use Rattle.isa.specs.declared.Inst.the-variants.{Lui, Auipc, Jal, Jalr, Branch, Load, Store, Imm, Shift, Arith, Fence, Ecall, Ebreak, MulDiv}
@@ -22,13 +19,14 @@ use Rattle.octets.specs.Bytes.{load}
 use Rattle.octets.proofs.Bytes.{load-add}
 use Rattle.place.specs.declared.Place.{Place}
 use Rattle.place.specs.declared.Place.the-variants.{Memory, Fuse, Misaligned, Outside}
-use Rattle.fuses.specs.Row.{markAt, burnt}
+use Rattle.fuses.specs.Row.{wordStored}
+use Rattle.fuses.specs.declared.Stored.{Stored}
+use Rattle.fuses.specs.declared.Stored.the-variants as F
 use Rattle.alu.specs.Arithmetic.{sum, takes}
 use Rattle.state.specs.States.{registerOf}
 use Rattle.boards.specs.Boards.{Board, board}
-use Rattle.access.specs.declared.Effect.{Effect}
-use Rattle.access.specs.declared.Effect.the-variants.{Next, Halt}
-use Rattle.access.specs.Accesses.{Done, loadPlace, loadedFrom, storePlace, onTo, storedWord, storedTo}
+use Rattle.access.specs.declared.Effect.the-variants.{Next}
+use Rattle.access.specs.Accesses.{Done, loadPlace, loadedFrom, storePlace, ofStored, storedInRow, storedTo}
 use Rattle.execute.specs.Execution.{actOf, performed}
 use Rattle.fetch.proofs.Laws.{fetch-short, fetch-long}
 use Rattle.engine.specs.Steps.{actFetched}
@@ -52,19 +50,13 @@ load-onward Misaligned o rd a m n b = refl
 load-onward Outside o rd a m n b = refl
 
 store-onward : (p : Place) (o : StoreOp) (v a m n : ℕ) (b : Board) → storedTo p o v a m b ≡ onward m (storedTo p o v a n b)
-unfolding storedTo storedWord
+unfolding storedTo storedInRow
 store-onward (Memory i) o v a m n b = refl
-store-onward (Fuse k) o v a m n b = go (eqb (markAt k (b .row)) 0)
+store-onward (Fuse k) o v a m n b = ap (λ e. outcome e (board (b .mem) (wordStored k v (b .row) .lent))) (go (wordStored k v (b .row) .answer))
   where
-    word : Bool → ℕ → Outcome Effect (List ℕ)
-    word t to = cond t (outcome (onTo to) (burnt k v (b .row))) (outcome (Halt (cause AlreadyBurnt a)) (b .row))
-
-    done : Bool → ℕ → Done
-    done t to = outcome (word t to .answer) (board (b .mem) (word t to .lent))
-
-    go : (t : Bool) → done t m ≡ onward m (done t n)
-    go true = refl
-    go false = refl
+    go : (r : Stored) → ofStored r a m ≡ endingAt m nextAlone (ofStored r a n)
+    go F.Done = refl
+    go F.AlreadyBurnt = refl
 store-onward Misaligned o v a m n b = refl
 store-onward Outside o v a m n b = refl
 

@@ -1,7 +1,7 @@
--- Demand 3, second part: over any sequence of runs and new starts on one row that only runs change, a word turns from blank to burnt at most once and keeps its value, and the words newly burnt are as many as the stores completed into the row.
+-- Demand 3, second part: over any sequence of runs and new starts on one row that only runs change, a word turns from blank to burnt at most once and keeps its value, and the words newly burnt are as many as the completed stores of values other than zero into the row.
 -- Each statement is proved in proofs/Burning.antt.
 use mathlib.Core.Path.{_≡_}
-use mathlib.Core.Bool.{Bool, true, false, _&&_}
+use mathlib.Core.Bool.{Bool, true, false, not, _&&_}
 use mathlib.Core.List.{List, [], _∷_}
 use Prim.Native.Nat.{ℕ, zero, suc, _+_, _≤_, _<_}
 use lib.Dec.{eqb}
@@ -9,17 +9,18 @@ use Rattle.answers.specs.declared.Check.{Check}
 use Rattle.answers.specs.declared.Check.the-variants.{Passed, Refused}
 use Rattle.place.specs.declared.Place.{Place}
 use Rattle.place.specs.declared.Place.the-variants.{Memory, Fuse, Misaligned, Outside}
-use Rattle.word.specs.Bits.{flag}
-use Rattle.fuses.specs.Row.{valueAt, markAt, Row, burntWords}
+use Rattle.word.specs.Bits.{flag, low}
+use Rattle.fuses.specs.Row.{valueAt, markAt, Row, rowChecked, burntWords}
+use Rattle.isa.specs.declared.StoreOp.{StoreOp}
 use Rattle.state.specs.declared.State.{State}
 use Rattle.boards.specs.Boards.{Board, board}
 use Rattle.access.specs.Accesses.{storePlace}
 use Rattle.execute.specs.declared.Act.{Act}
 use Rattle.execute.specs.declared.Act.the-variants.{Sets, Loads, Stores, Ends}
-use Rattle.engine.specs.Steps.{World, world, checked, asked, completes, stepped, ran}
+use Rattle.engine.specs.Steps.{World, world, checked, asked, paused, completes, stepped, ran}
 use Rattle.machine.specs.Entries.{runEntry}
 
--- ---- stores completed into the row, counted on the steps
+-- ---- completed stores of values other than zero into the row, counted on the steps
 
 abbrev pub inWindow : Place → Bool
 inWindow (Memory i) = false
@@ -27,14 +28,14 @@ inWindow (Fuse k) = true
 inWindow Misaligned = false
 inWindow Outside = false
 
--- the act is a store, and its access lies in the fuse window
+-- the act is a store of a value other than zero, and its access lies in the fuse window
 abbrev pub storesThere : Act → Board → Bool
 storesThere (Sets rd v next) b = false
 storesThere (Loads o rd a next) b = false
-storesThere (Stores o v a next) b = inWindow (storePlace o a b)
+storesThere (Stores o v a next) b = inWindow (storePlace o a b) && not (eqb (low 32 v) 0)
 storesThere (Ends why) b = false
 
--- the next step completes a store into the row
+-- the next step completes such a store
 abbrev pub burns : World → Bool
 burns w = completes w && storesThere (asked w) (w .board)
 
@@ -83,9 +84,9 @@ turnsOver k (e ∷ es) f = ifRun (checked (begun e f)) (turnsIn k (e .budget) (b
 
 -- ---- the promises
 
--- the row stays a row
+-- the row stays a row: what runs leave passes checks 2 and 3
 abbrev pub StaysARow : Type 0
-StaysARow = (es : List Start) (f : List ℕ) → Row f → Row (rowAfter es f)
+StaysARow = (es : List Start) (f : List ℕ) → Row f → Row (rowAfter es f) × (rowChecked (rowAfter es f) Passed ≡ Passed)
 
 -- no word burnt twice: it turns from blank to burnt at most once, and not at all where it was burnt
 abbrev pub BurntOnce : Type 0
@@ -103,6 +104,36 @@ KeepsValueInRun =
     (n : ℕ) (w : World) (k : ℕ) → Row (w .board .row) → k < 64 → markAt k (w .board .row) ≡ 1
     → (markAt k (ran n w .board .row) ≡ 1) × (valueAt k (ran n w .board .row) ≡ valueAt k (w .board .row))
 
--- the words newly burnt are as many as the stores completed into the row
+-- a burnt word's value is never zero
+abbrev pub BurntNotZero : Type 0
+BurntNotZero = (es : List Start) (f : List ℕ) (k : ℕ) → Row f → k < 64 → markAt k (rowAfter es f) ≡ 1 → valueAt k (rowAfter es f) ≡ 0 → ⊥
+
+-- the words newly burnt are as many as the completed stores of values other than zero into the row
 abbrev pub NewlyBurnt : Type 0
 NewlyBurnt = (es : List Start) (f : List ℕ) → Row f → burntWords 64 (rowAfter es f) ≡ burntWords 64 f + storesOver es f
+
+-- ---- a store to word k, which the next step of w asks for
+
+pub record StoresTo (w : World) (k v : ℕ) : Type 0 where
+  pub o : StoreOp
+  pub a : ℕ
+  pub next : ℕ
+  pub goes : paused w ≡ true
+  pub asks : asked w ≡ Stores o v a next
+  pub there : storePlace o a (w .board) ≡ Fuse k
+
+-- of 0 to a blank word: it completes, counts as a step, and leaves memory and row as they were, byte for byte
+abbrev pub ZeroIsNoPulse : Type 0
+ZeroIsNoPulse =
+    (w : World) (k v : ℕ) → StoresTo w k v → low 32 v ≡ 0 → markAt k (w .board .row) ≡ 0
+    → (completes w ≡ true) × (stepped w .st .count ≡ w .st .count + 1) × (stepped w .board ≡ w .board)
+
+-- of any value, also 0, to a burnt word: it stops with 9, and memory and row are as they were
+abbrev pub BurntStops : Type 0
+BurntStops =
+    (w : World) (k v : ℕ) → StoresTo w k v → markAt k (w .board .row) ≡ 1
+    → (completes w ≡ false) × (stepped w .st .stop ≡ 9) × (stepped w .board ≡ w .board)
+
+-- steps that complete no store of a value other than zero into the row leave it, byte for byte: clearing burns nothing
+abbrev pub ClearingBurnsNothing : Type 0
+ClearingBurnsNothing = (n : ℕ) (w : World) → storesIn n w ≡ 0 → ran n w .board .row ≡ w .board .row

@@ -15,9 +15,9 @@ use Rattle.shortest.specs.Trial.{tryFor}
 use Rattle.shortest.proofs.Shortest.{by-one}
 use Rattle.octets.specs.Bytes.{littleEndian, ofLittleEndian, load, store}
 use Rattle.place.specs.Map.{placed}
-use Rattle.fuses.specs.Row.{allKeep, burnt}
+use Rattle.fuses.specs.Row.{allKeep, burnt, wordStored}
 use Rattle.boards.specs.Boards.{Board}
-use Rattle.access.specs.Accesses.{loadedFrom, storedWord, storedTo}
+use Rattle.access.specs.Accesses.{loadedFrom, storedInRow, storedTo}
 use Rattle.execute.specs.Execution.{actOf, performed}
 use Rattle.fetch.specs.Fetching.{fetchedWith, fetched}
 use Rattle.engine.specs.Steps.{actFetched, asked, applied, paused, stepped, ran, retired}
@@ -31,7 +31,7 @@ abbrev spent-row : List ℕ
 spent-row = burnt 0 7 blank
 
 stops : (paused (ran 4 (start image blank)) ≡ false) × (runEntry 4 (start image blank) .lent .row ≡ spent-row) × (paused (ran 3 (start image spent-row)) ≡ false)
-unfolding decoded expanded littleEndian ofLittleEndian load store placed burnt loadedFrom storedWord storedTo actOf performed fetchedWith fetched actFetched asked applied stepped ran allKeep decided
+unfolding decoded expanded littleEndian ofLittleEndian load store placed burnt loadedFrom wordStored storedInRow storedTo actOf performed fetchedWith fetched actFetched asked applied stepped ran allKeep decided
 stops = (refl, refl, refl)
 
 first-run : runEntry 100 (start image blank) ≡ runEntry 4 (start image blank)
@@ -43,7 +43,7 @@ second-run =
     ∙ run-ends 3 97 (start image spent-row) (stops .2)
 
 pub cards-hold : CardsHold
-unfolding decoded expanded inRange tryFor littleEndian ofLittleEndian load store placed burnt loadedFrom storedWord storedTo actOf performed fetchedWith fetched actFetched asked applied stepped ran retired allKeep decided
+unfolding decoded expanded inRange tryFor littleEndian ofLittleEndian load store placed burnt loadedFrom wordStored storedInRow storedTo actOf performed fetchedWith fetched actFetched asked applied stepped ran retired allKeep decided
 cards-hold = (
   (refl, tt),
   (

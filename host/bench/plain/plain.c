@@ -216,14 +216,16 @@ static uint8_t load(const struct lent *lent, uint32_t f3, uint32_t a, uint32_t *
     return PHUYURIK_PAUSED;
 }
 
-/* a is a word of the window */
-static uint8_t burn(uint8_t *row, uint32_t a, uint32_t value)
+/* a is a word of the window; zero gives no pulse */
+static uint8_t store_row(uint8_t *row, uint32_t a, uint32_t value)
 {
     uint8_t *record = row + 2 * (a - WINDOW);
     if (record[4])
         return PHUYURIK_ALREADY_BURNT;
-    write4(record, value);
-    record[4] = 1;
+    if (value) {
+        write4(record, value);
+        record[4] = 1;
+    }
     return PHUYURIK_PAUSED;
 }
 
@@ -237,7 +239,7 @@ static uint8_t store(const struct lent *lent, uint32_t f3, uint32_t a, uint32_t 
     if ((uint64_t)a + n > lent->length) {
         if (f3 != 2 || a - WINDOW >= WINDOW_BYTES)
             return PHUYURIK_STORE_OUTSIDE;
-        return burn(lent->row, a, value);
+        return store_row(lent->row, a, value);
     }
     switch (f3) {
     case 0: lent->mem[a] = (uint8_t)value; break;

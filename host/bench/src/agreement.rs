@@ -19,9 +19,17 @@ fn word(random: &mut Random) -> u32 {
         0x13 if word >> 12 & 3 == 1 => word & 0x01ff_ffff | random.pick(&[0, 32]) << 25,
         0x6f => word & 0xfff | random.pick(&[2, 4, 6, 12, 40]) << 20,
         0x63 => word & 0x01ff_ff7f,
+        0x23 if random.below(4) == 0 => store_word(random),
         0x03 | 0x23 | 0x67 => word & 0x01ff_ffff & random.pick(&[!0x4000, !0x7000, !0]),
         _ => word,
     }
+}
+
+/// `sw` at a multiple of 4 under 32 from a register, half of them of x0.
+fn store_word(random: &mut Random) -> u32 {
+    let any = random.word();
+    let data = random.pick(&[0, any & 31 << 20]);
+    data | any & (31 << 15 | 7 << 9) | 2 << 12 | 0x23
 }
 
 fn half(random: &mut Random) -> u16 {
@@ -49,12 +57,12 @@ fn program(random: &mut Random) -> Vec<u8> {
     memory
 }
 
-/// A quarter of the words burnt.
+/// A quarter of the words burnt, never with 0.
 fn row(random: &mut Random) -> Vec<u8> {
     let mut row = vec![0; phuyurik::ROW];
     for record in row.chunks_exact_mut(8) {
         if random.below(4) == 0 {
-            record[..4].copy_from_slice(&(random.word()).to_le_bytes());
+            record[..4].copy_from_slice(&random.word().max(1).to_le_bytes());
             record[4] = 1;
         }
     }
@@ -122,6 +130,25 @@ fn random_programs_end_alike() {
     }
     println!("{steps} steps; ends by stop number: {stops:?}");
     assert!(stops.iter().all(|ends| *ends > 20) && steps > 50_000);
+}
+
+/// `sw x2,0(x1)` to each word, of zero and of others, most with a single byte that is not zero.
+#[test]
+fn stores_into_the_row_end_alike() {
+    let row = row(&mut Random::new(1));
+    let values = [0, 1, 0x80, 0x100, 0x1_0000, 0x8000_0000, u32::MAX];
+    let (mut blank_and_zero, mut burnt_and_zero) = (0, 0);
+    for (word, value) in (0..64).flat_map(|word| values.map(|value| (word, value))) {
+        let mut x = [0; 31];
+        (x[0], x[1]) = (0x8000_0000 + 4 * word, value);
+        let s = engines::state(0, &x, 0, 0);
+        let end = compare(s, &0x0020_a023_u32.to_le_bytes(), &row, 1);
+        let is_burnt = row[8 * word as usize + 4] == 1;
+        assert_eq!(end, if is_burnt { (9, 0) } else { (0, 1) });
+        blank_and_zero += u32::from(!is_burnt && value == 0);
+        burnt_and_zero += u32::from(is_burnt && value == 0);
+    }
+    assert!(blank_and_zero > 9 && burnt_and_zero > 9);
 }
 
 /// Each halfword once, with what follows it: one step, from registers that are mostly addresses.

@@ -114,6 +114,20 @@ fn matrix() {
     assert_eq!(end("matrix").state.reg(A0), sum);
 }
 
+/// Zero burns nothing: of the 64 words that are cleared only the two that are trimmed then are burnt.
+#[test]
+fn clear_trim() {
+    let image = include_bytes!("../../../examples/clear_trim.bin");
+    let mut row = vec![0; 512];
+    row[24..32].copy_from_slice(&[37, 0, 0, 0, 1, 0, 0, 0]);
+    row[320..328].copy_from_slice(&[250, 255, 255, 255, 1, 0, 0, 0]);
+    for engine in ENGINES {
+        let end = engines::run(engine, image).0;
+        assert_eq!((end.state.stop_number(), end.retired), (1, 198));
+        assert_eq!(end.row, row);
+    }
+}
+
 /// The mean of the readings is 2100.4, so -52 counts and -17 steps of 3 are missing: 47 in six bits.
 #[test]
 fn voltage_trim() {
@@ -162,6 +176,7 @@ fn listings() {
     }
     let listed = listed!(
         "trim",
+        "clear_trim",
         "voltage_trim",
         "insertion_sort",
         "crc",

@@ -8,6 +8,7 @@ mod lent;
 mod options;
 mod program;
 mod refusals;
+mod row_store;
 mod runs;
 mod scene;
 mod tally;

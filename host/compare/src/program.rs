@@ -1,20 +1,24 @@
 //! Random programs: mostly legal instructions of both lengths, short jumps, accesses near the
-//! ends of memory and in the window, and stores over code.
+//! ends of memory and in the window, stores over code; and recipes that work on the row alone.
 
 use second::{op, Inst};
 use testing::Random;
 
 /// Registers that programs use as addresses and seldom write to.
 pub const POINTERS: [u32; 6] = [2, 8, 9, 10, 14, 31];
+/// Those that lead to the window in a program that trims: short stores go from them, too.
+pub const ROW_POINTERS: [u32; 2] = [2, 8];
 /// Registers that jumps and calls go through.
 pub const LINKS: [u32; 2] = [1, 5];
-const WINDOW: u32 = 0x8000_0000;
+pub const WINDOW: u32 = 0x8000_0000;
 
 /// How a program behaves.
 #[derive(Clone, Copy, PartialEq, Eq)]
 pub enum Temper {
     /// Goes on for long: stays near, and loads and stores where its pointers lead.
     Calm,
+    /// Clears and burns words of the row, reads them, and works out others between.
+    Trimming,
     /// Anything; one in so many instructions is any bits.
     Wild(u64),
 }
@@ -25,7 +29,11 @@ pub fn code(random: &mut Random, length: usize, temper: Temper) -> Vec<u8> {
     while code.len() < length {
         match temper {
             Temper::Calm => {
-                let inst = calm_instruction(random);
+                let inst = calm(random, instruction);
+                emit(random, inst, &mut code);
+            }
+            Temper::Trimming => {
+                let inst = trimming_instruction(random);
                 emit(random, inst, &mut code);
             }
             Temper::Wild(junk) => wild_piece(random, junk, &mut code),
@@ -47,12 +55,26 @@ fn wild_piece(random: &mut Random, junk: u64, code: &mut Vec<u8>) {
     }
 }
 
-fn calm_instruction(random: &mut Random) -> Inst {
+/// A calm one of those that `any` gives.
+fn calm(random: &mut Random, any: fn(&mut Random) -> Inst) -> Inst {
     loop {
-        let inst = instruction(random);
+        let inst = any(random);
         if is_calm(inst) {
             return inst;
         }
+    }
+}
+
+/// More stores of zero than of others: where a word is burnt the recipe ends.
+fn trimming_instruction(random: &mut Random) -> Inst {
+    let base = random.pick(&ROW_POINTERS);
+    let word = (4 * random.within(0, 63)) as u32;
+    match random.below(8) {
+        0..=3 => store(op::SW, 0, base, word),
+        4 => store(op::SW, any_register(random), base, word),
+        5 => indexed(op::LW, random.pick(&[0, 3, 11, 12, 13]), base, word),
+        6 => calm(random, branch),
+        _ => calm(random, immediate_arithmetic),
     }
 }
 
@@ -114,7 +136,7 @@ fn use_of_the_window(random: &mut Random, code: &mut Vec<u8>) {
     let access = if random.once_in(2) {
         indexed(op::LW, any_register(random), base, imm)
     } else {
-        store(op::SW, any_register(random), base, imm)
+        store(op::SW, data_register(random), base, imm)
     };
     emit(random, access, code);
 }
@@ -237,7 +259,15 @@ fn load(random: &mut Random) -> Inst {
 fn store_somewhere(random: &mut Random) -> Inst {
     let operation = op::SB + random.below(3) as u32;
     let (base, imm) = base_and_offset(random, 1 << (operation - op::SB));
-    store(operation, any_register(random), base, imm)
+    store(operation, data_register(random), base, imm)
+}
+
+/// What is stored; often zero.
+fn data_register(random: &mut Random) -> u32 {
+    if random.once_in(4) {
+        return 0;
+    }
+    any_register(random)
 }
 
 /// A pointer and a small multiple of the size, or now and then anything.
@@ -315,7 +345,7 @@ fn store(operation: u32, data: u32, base: u32, imm: u32) -> Inst {
 
 /// A value that operations, addresses or stores over code may find interesting.
 pub fn value(random: &mut Random, length: usize) -> u32 {
-    match random.below(10) {
+    match random.below(11) {
         0 => 0,
         1 => random.below(64) as u32,
         2 => u32::MAX - random.below(3) as u32,
@@ -323,8 +353,14 @@ pub fn value(random: &mut Random, length: usize) -> u32 {
         4 => legal_word(random),
         5 => u32::from(legal_half(random)) << 16 | u32::from(legal_half(random)),
         6 | 7 => address(random, length),
+        8 => one_bit(random),
         _ => random.word(),
     }
+}
+
+/// Of such a value three bytes are zero, but not the fourth.
+pub fn one_bit(random: &mut Random) -> u32 {
+    1 << random.below(32)
 }
 
 /// An address in memory, near its ends, or in the window; mostly a multiple of 4.

@@ -69,9 +69,10 @@ fn spoil_row_record(random: &mut Random, row: &mut [u8]) {
     let anywhere = random.length(0, 63);
     let place = 8 * random.pick(&[0, 63, anywhere]);
     let record = &mut row[place..place + 8];
-    match random.below(3) {
+    match random.below(4) {
         0 => record[4] = random.length(2, 255) as u8,
         1 => record[random.length(5, 7)] = not_zero(random),
+        2 => record[..5].copy_from_slice(&[0, 0, 0, 0, 1]),
         _ => {
             record[4] = 0;
             record[random.length(0, 3)] = not_zero(random);

@@ -1,4 +1,4 @@
-//! Steps and runs: one operation on hostile values, walks, whole runs.
+//! Steps and runs: one operation on hostile values, walks, whole runs, recipes on the row.
 
 use crate::cuts::cut_run;
 use crate::scene::{self, compare, Entry, Scene};
@@ -36,6 +36,7 @@ pub fn round(tally: &mut Tally, random: &mut Random) -> Check {
         whole_run(tally, random)?;
         let scene = sound_or_calm(random);
         cut_run(tally, random, &scene)?;
+        clear_and_trim(tally, random)?;
         slots(tally, random)?;
     }
     Ok(())
@@ -125,6 +126,18 @@ fn whole_run(tally: &mut Tally, random: &mut Random) -> Check {
         }
     }
     Ok(())
+}
+
+/// A recipe on the row: step after step, then the same run whole and in pieces.
+fn clear_and_trim(tally: &mut Tally, random: &mut Random) -> Check {
+    let scene = scene::trimming(random);
+    let mut stepped = scene.clone();
+    for _ in 0..scene.budget {
+        stepped = compare(tally, Entry::Step, &stepped)?.scene;
+    }
+    compare(tally, Entry::Run, &scene)?;
+    compare(tally, Entry::RunSlot, &scene)?;
+    cut_run(tally, random, &scene)
 }
 
 /// Slots read, written and run, with states and buffers of every kind.

@@ -2,9 +2,10 @@
 
 use crate::lent::Lent;
 use crate::program::{self, Temper};
+use crate::row_store::RowStore;
 use crate::tally::{first_other, number, Difference, Tally};
 use phuyurik::{Board, Slots, Stop, RECORD, ROW};
-use second::State;
+use second::{op, Inst, State};
 use std::ops::Range;
 use testing::Random;
 
@@ -130,6 +131,7 @@ pub fn compare(tally: &mut Tally, entry: Entry, before: &Scene) -> Result<After,
     }
     tally.note_refusal(&answers.1);
     note_stop(tally, entry, before, &second);
+    note_row_store(tally, entry, before, &second);
     Ok(After {
         answer: answers.1,
         scene: second,
@@ -146,6 +148,15 @@ fn note_stop(tally: &mut Tally, entry: Entry, before: &Scene, after: &Scene) {
     if from.stop == 0 && (retired > 0 || to.stop != 0) {
         tally.stops[usize::from(to.stop)] += 1;
         tally.note_address(&to);
+    }
+}
+
+/// Counts what a step stored into the row, or stopped at there.
+fn note_row_store(tally: &mut Tally, entry: Entry, before: &Scene, after: &Scene) {
+    if entry == Entry::Step && before.state != after.state {
+        if let Some(kind) = RowStore::next(before) {
+            tally.row_stores[kind as usize] += 1;
+        }
     }
 }
 
@@ -205,6 +216,28 @@ pub fn calm(random: &mut Random) -> Scene {
     }
     let mut scene = with_slots(random, state, mem);
     scene.budget = random.below(20_000);
+    scene
+}
+
+/// As `sound`, with a recipe that clears and trims, and perhaps begins anew at its end.
+pub fn trimming(random: &mut Random) -> Scene {
+    let length = random.length(8, 200);
+    let mut mem = program::code(random, length, Temper::Trimming);
+    let end = random.pick(&[op::ECALL, op::JAL]);
+    let back = (mem.len() as u32).wrapping_neg();
+    let last = Inst {
+        operation: end,
+        imm: if end == op::JAL { back } else { 0 },
+        ..Inst::default()
+    };
+    mem.extend(second::encode(last).unwrap_or(0).to_le_bytes());
+    let mut state = state(random, mem.len());
+    (state.pc, state.count, state.stop, state.address) = (0, random.below(1000), 0, 0);
+    for pointer in program::ROW_POINTERS {
+        state.x[pointer as usize - 1] = program::WINDOW;
+    }
+    let mut scene = with_slots(random, state, mem);
+    scene.budget = random.below(100);
     scene
 }
 
@@ -316,13 +349,17 @@ fn count(random: &mut Random) -> u64 {
     }
 }
 
-/// A sound row: blank, full, or partly burnt, some words with 0.
+/// A sound row: blank, full, or partly burnt, never with 0.
 fn row(random: &mut Random) -> Vec<u8> {
     let burnt_in_eight = random.pick(&[0, 0, 1, 4, 8]);
     let mut row = vec![0; ROW];
     for record in row.chunks_exact_mut(8) {
         if random.below(8) < burnt_in_eight {
-            let value = if random.once_in(4) { 0 } else { random.word() };
+            let value = if random.once_in(4) {
+                program::one_bit(random)
+            } else {
+                random.word().max(1)
+            };
             record[..4].copy_from_slice(&value.to_le_bytes());
             record[4] = 1;
         }

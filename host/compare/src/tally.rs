@@ -1,5 +1,6 @@
 //! What was compared, and what was reached by it.
 
+use crate::row_store::RowStore;
 use phuyurik::{Error, Refusal, Stop};
 use second::State;
 use std::fmt::Debug;
@@ -23,6 +24,8 @@ pub struct Tally {
     /// How often an address other than 0 came with the stop; pc + 2 for a fetch is counted apart.
     pub addresses: [u64; Stop::ALL.len()],
     pub second_halfwords: u64,
+    /// How often a single step came to each kind of store into the row.
+    pub row_stores: [u64; RowStore::ALL.len()],
     /// How often each refusal was answered; the first place stays 0.
     pub refusals: [u64; Refusal::ALL.len() + 1],
 }
@@ -108,7 +111,16 @@ impl Tally {
         numbers.map(|number| (number, self.addresses[usize::from(number)]))
     }
 
-    /// The stops, their addresses and the refusals that were never reached; a full comparison has none.
+    /// How often each kind of store into the row was reached.
+    fn stored(&self) -> impl Iterator<Item = (&'static str, u64)> + '_ {
+        RowStore::ALL
+            .map(RowStore::words)
+            .into_iter()
+            .zip(self.row_stores)
+    }
+
+    /// The stops, their addresses, the stores into the row and the refusals that were never reached; a
+    /// full comparison has none.
     pub fn missing(&self) -> Vec<String> {
         let mut reached = Vec::new();
         let mut note = |what: String, count: u64| reached.push((what, count));
@@ -119,6 +131,9 @@ impl Tally {
             note(format!("an address of stop {number}"), count);
         }
         note("stop 4 at pc + 2".to_string(), self.second_halfwords);
+        for (kind, count) in self.stored() {
+            note(format!("a store of {kind}"), count);
+        }
         for (number, count) in self.refusals.iter().enumerate().skip(1) {
             note(format!("refusal {number}"), *count);
         }
@@ -131,14 +146,18 @@ impl Tally {
         let addresses = self.addressed();
         let addresses = addresses.map(|(stop, count)| format!("{stop}: {}", grouped(count)));
         let addresses: Vec<String> = addresses.collect();
+        let stores = self.stored();
+        let stores = stores.map(|(kind, count)| format!("{kind}: {}", grouped(count)));
+        let stores: Vec<String> = stores.collect();
         format!(
             "compare: {comparisons} comparisons ({steps} steps), {differences} differences, \
              seed {seed}, stops 0-{} reached: {}, addresses of stop {}, 4 at pc + 2: {}, \
-             refusals 1-{} reached: {}",
+             stores of {}, refusals 1-{} reached: {}",
             self.stops.len() - 1,
             counts(&self.stops),
             addresses.join(", "),
             grouped(self.second_halfwords),
+            stores.join(", "),
             self.refusals.len() - 1,
             counts(&self.refusals[1..])
         )
@@ -191,6 +210,7 @@ mod tests {
     fn what_was_never_reached_is_missing() {
         let mut tally = Tally {
             stops: [1; Stop::ALL.len()],
+            row_stores: [1; RowStore::ALL.len()],
             refusals: [1; Refusal::ALL.len() + 1],
             ..Tally::default()
         };
@@ -206,6 +226,11 @@ mod tests {
         assert!(tally.missing().is_empty());
         (tally.stops[10], tally.refusals[9]) = (0, 0);
         assert_eq!(tally.missing(), ["stop 10", "refusal 9"]);
+        for kind in RowStore::ALL {
+            let name = format!("a store of {}", kind.words());
+            tally.row_stores[kind as usize] = 0;
+            assert!(tally.missing().contains(&name));
+        }
     }
 
     /// A state at 8.

@@ -51,11 +51,10 @@ pub(crate) fn check_memory_and_row(mem: &[u8], row: &[u8]) -> Result<(), u32> {
     Ok(())
 }
 
-/// A row record: value, mark, three bytes of zero; a blank word has value 0.
+/// A row record: value, mark, three bytes of zero. A blank word has value 0, a burnt one any other.
 fn record_is_sound(record: &[u8]) -> bool {
-    let blank = record[..5] == [0; 5];
-    let burnt = record[4] == 1;
-    (blank || burnt) && record[5..] == [0; 3]
+    let mark = u8::from(record[..4] != [0; 4]);
+    record[4..] == [mark, 0, 0, 0]
 }
 
 pub(crate) fn check_state(s: &State) -> Result<(), u32> {
@@ -261,21 +260,24 @@ impl Machine<'_> {
         let in_memory = self.mem.get_mut(address as usize..);
         match in_memory.and_then(<[u8]>::first_chunk_mut) {
             Some(place) => *place = bytes,
-            None => self.burn(address, &bytes)?,
+            None => self.write_row(address, &bytes)?,
         }
         Ok(())
     }
 
-    /// Burns a word of the row. Only whole words are stored there, and a burnt one never again.
-    fn burn(&mut self, address: u32, bytes: &[u8]) -> Outcome<()> {
+    /// Stores a word in the row, which burns it; zero is no pulse and leaves a blank word blank. Only
+    /// whole words are stored there, and into a burnt one nothing, zero neither.
+    fn write_row(&mut self, address: u32, bytes: &[u8]) -> Outcome<()> {
         let record = record_at(address).filter(|_| bytes.len() == 4);
         let outside = Stopped::at(address, stop::STORE_OUTSIDE);
         let record = &mut self.row[8 * record.ok_or(outside)?..];
         if record[4] != 0 {
             return Err(Stopped::at(address, stop::ALREADY_BURNT));
         }
-        record[..4].copy_from_slice(bytes);
-        record[4] = 1;
+        if bytes != [0; 4] {
+            record[..4].copy_from_slice(bytes);
+            record[4] = 1;
+        }
         Ok(())
     }
 }

@@ -22,7 +22,7 @@ const WINDOW: u32 = 0x8000_0000;
 /// this address, and to change nothing else.
 fn stops(mut s: State, mem: &[u8], stop: u8, address: u32) {
     let mut row = [0; 512];
-    row[508] = 1;
+    (row[504], row[508]) = (1, 1);
     let (mut mem_after, mut row_after) = (mem.to_vec(), row);
     let before = s.clone();
     step(&mut s, &mut mem_after, &mut row_after).unwrap();

@@ -53,6 +53,8 @@ pub enum Error {
     Of(Kind, PathBuf, String),
     /// The proved library refused what a file holds.
     Refused(PathBuf, Refusal),
+    /// It refused a row for one of its records: which, and which rule is broken.
+    RowRecord(PathBuf, String),
     /// The demo saw something else than it promises.
     Fact(String),
 }
@@ -104,6 +106,7 @@ impl Error {
             Error::Usage(_) => 2,
             Error::Of(kind, ..) => kind.code(),
             Error::Refused(_, refusal) => refusal_code(*refusal),
+            Error::RowRecord(..) => refusal_code(Refusal::RowRecord),
         }
     }
 }
@@ -118,6 +121,9 @@ impl fmt::Display for Error {
             Error::Usage(why) => write!(f, "{why} (see phuyurik --help)"),
             Error::Of(_, path, why) => write!(f, "{}: {why}", path.display()),
             Error::Refused(path, refusal) => write!(f, "{}: {refusal}", path.display()),
+            Error::RowRecord(path, rule) => {
+                write!(f, "{}: {} ({rule})", path.display(), Refusal::RowRecord)
+            }
             Error::Fact(what) => write!(f, "demo: {what}"),
         }
     }

@@ -17,7 +17,33 @@ pub fn row_in(path: &Path, bytes: &[u8]) -> Result<Row, Error> {
     Board::new(&mut [], &mut copy)
         .run(&mut State::fresh(), 0)
         .and_then(|_| Ok(Row::try_from(bytes)?))
-        .map_err(|error| Error::of_library(path, error))
+        .map_err(|error| refused(path, bytes, error))
+}
+
+/// Why the library refused these bytes of a row's file; of a record that breaks its rules also which
+/// it is, and which rule.
+pub fn refused(path: &Path, bytes: &[u8], error: phuyurik::Error) -> Error {
+    let broken = |(k, record)| Some(format!("word {k}: {}", broken_rule(record)?));
+    match bytes.chunks_exact(8).enumerate().find_map(broken) {
+        Some(rule) if error.refusal() == Some(Refusal::RowRecord) => {
+            Error::RowRecord(path.to_path_buf(), rule)
+        }
+        _ => Error::of_library(path, error),
+    }
+}
+
+fn broken_rule(record: &[u8]) -> Option<String> {
+    let value = u32::from_le_bytes([record[0], record[1], record[2], record[3]]);
+    if record[5..] != [0; 3] {
+        return Some("bytes 5 to 7 are not zero".to_string());
+    }
+    match (record[4], value) {
+        (0, 0) => None,
+        (0, value) => Some(format!("blank, with value {value}")),
+        (1, 0) => Some("mark 1 with value 0".to_string()),
+        (1, _) => None,
+        (mark, _) => Some(format!("mark {mark}")),
+    }
 }
 
 /// The words burnt in these bytes of a file, as far as they are a row. A word of which only a part

@@ -172,13 +172,13 @@ pub fn row_of(words: &[(usize, u32)]) -> Vec<u8> {
     row
 }
 
-/// A recipe that burns its words one after the other, the `k`-th from `first` with `first + k`, and
-/// then comes to its ecall. Four steps burn a word.
+/// A recipe that burns its words one after the other, word `k` with `100 + k`, and then comes to
+/// its ecall. Four steps burn a word.
 pub fn burning(first: u32, words: u32) -> Vec<u8> {
     let mut image = Vec::new();
     for word in first..first + words {
         let steps = [
-            0x0000_0293 | word << 20,          // addi x5,x0,word
+            0x0000_0293 | (100 + word) << 20,  // addi x5,x0,100+word
             0x8000_0337,                       // lui x6,0x80000
             0x0000_0013,                       // addi x0,x0,0
             0x0053_2023 | sw_offset(4 * word), // sw x5,4*word(x6)

@@ -13,8 +13,8 @@ store-of-requires c κs =
     rw (b .before .store-width .ensures)
     (placed-memory _ _ _ _ (place-is _ _ (b .before .store-width .ensures) (b .place-of .ensures) (found .place .given .1)) .1)
 
-store-word-requires : tie.Need-store-word-requires
-store-word-requires c κs =
+store-in-row-requires : tie.Need-store-in-row-requires
+store-in-row-requires c κs =
     let found = c .before .before in
     let b = found .before .before in
     let k = placed-fuse _ _ _ _ (place-is _ _ (b .before .store-width .ensures) (b .place-of .ensures) (found .place2 .given .1)) in
@@ -41,7 +41,7 @@ returns-2 c =
     let b = found .before .before in
     rw (
       place-is _ _ (b .before .store-width .ensures) (b .place-of .ensures) (found .place2 .given .1),
-      ← (stored .store-word .ensures),
+      ← (stored .store-in-row .ensures),
     )
 
 returns-3 : tie.Need-returns-3
@@ -66,7 +66,7 @@ store-spec =
     store-of-requires
     _
     (λ c. search needs)
-    store-word-requires
+    store-in-row-requires
     (λ c. search needs)
     (λ c. search needs)
     (λ c. search needs)
