@@ -10,7 +10,6 @@ use lib.ListN.{length}
 use borrow.Author.Tests.{eqb-true, ltb-true}
 use Rattle.answers.proofs.Checks.{both-passed}
 use Rattle.answers.specs.declared.Cause.{Cause}
-use Rattle.answers.specs.declared.Stop.the-variants as S
 use Rattle.answers.specs.declared.Check.the-variants.{Passed}
 use Rattle.answers.specs.declared.Refusal.the-variants as R
 use Rattle.word.proofs.Bools.{either, second}

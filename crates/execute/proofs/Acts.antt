@@ -20,7 +20,7 @@ use Rattle.octets.proofs.Bytes.{load-lt}
 use Rattle.place.specs.declared.Place.{Place}
 use Rattle.place.specs.declared.Place.the-variants.{Memory, Fuse, Misaligned, Outside}
 use Rattle.place.proofs.Placed.{placed-memory, placed-fuse}
-use Rattle.fuses.specs.Row.{markAt, burnt, wordStored}
+use Rattle.fuses.specs.Row.{markAt, burnt}
 use Rattle.fuses.specs.declared.Stored.{Stored}
 use Rattle.fuses.proofs.Burning.{WordStores, burns, no-pulse, refused, stores-as}
 use Rattle.boards.specs.Boards.{Board, board, BoardFits}

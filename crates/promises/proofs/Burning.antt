@@ -1,17 +1,17 @@
 -- The promises of burning: a step leaves the row or burns one blank word of it, whatever it asks for; so what steps, runs and starts do to a row is one record of facts, which joins along the way. Each promise is one of its facts.
 -- Assumes nothing.
-use mathlib.Core.Path.{_≡_, refl, sym, ap, _∙_}
-use mathlib.Core.Bool.{true, false, _&&_}
+use mathlib.Core.Path.{_≡_, refl, _∙_}
+use mathlib.Core.Bool.{_&&_}
 use native.Mathlib.Omega.{arith}
 use borrow.Author.Tests.{eq-eqb, ne-eqb}
 use mathlib.Core.List.{List, [], _∷_}
-use Prim.Native.Nat.{ℕ, zero, suc, _+_}
+use Prim.Native.Nat.{ℕ, zero, suc}
 use lib.Dec.{eqb}
 use Rattle.answers.specs.Outcomes.{outcome, decided}
 use Rattle.answers.specs.declared.Check.{Check}
 use Rattle.answers.specs.declared.Check.the-variants.{Passed, Refused}
 use Rattle.word.proofs.Bools.{flag-le}
-use Rattle.word.specs.Bits.{flag, low}
+use Rattle.word.specs.Bits.{low}
 use Rattle.fuses.specs.Row.{markAt, wordStored, Row}
 use Rattle.fuses.proofs.Burning.{RowStep, stays, burning, Leads, at-rest, join, by-step, step-leaves, row-not-zero}
 use Rattle.boards.specs.Boards.{Board}
@@ -95,7 +95,7 @@ pub zero-is-no-pulse : ZeroIsNoPulse
 unfolding storedTo storedInRow wordStored stepped applied
 zero-is-no-pulse w k v s z m =
     let d : stepDone w ≡ outcome (onTo (s .next)) (w .board) = done s ∙ rw (eq-eqb _ 0 m, eq-eqb _ 0 z) in
-    rw (s .goes, d) (refl, refl, refl)
+    rw (s .goes, d) (refl, refl)
 
 pub burnt-stops : BurntStops
 unfolding storedTo storedInRow wordStored stepped applied

@@ -13,6 +13,7 @@ use Rattle.word.specs.Bits.{flag, low}
 use Rattle.fuses.specs.Row.{valueAt, markAt, Row, rowChecked, burntWords}
 use Rattle.isa.specs.declared.StoreOp.{StoreOp}
 use Rattle.state.specs.declared.State.{State}
+use Rattle.state.specs.States.{advanced}
 use Rattle.boards.specs.Boards.{Board, board}
 use Rattle.access.specs.Accesses.{storePlace}
 use Rattle.execute.specs.declared.Act.{Act}
@@ -28,7 +29,7 @@ inWindow (Fuse k) = true
 inWindow Misaligned = false
 inWindow Outside = false
 
--- the act is a store of a value other than zero, and its access lies in the fuse window
+-- the act is a store of a value other than zero (its low 32 bits: of a register the value itself), and its access lies in the fuse window
 abbrev pub storesThere : Act → Board → Bool
 storesThere (Sets rd v next) b = false
 storesThere (Loads o rd a next) b = false
@@ -122,11 +123,11 @@ pub record StoresTo (w : World) (k v : ℕ) : Type 0 where
   pub asks : asked w ≡ Stores o v a next
   pub there : storePlace o a (w .board) ≡ Fuse k
 
--- of 0 to a blank word: it completes, counts as a step, and leaves memory and row as they were, byte for byte
+-- of 0 to a blank word: it completes, counts as a step and goes on to the next instruction, and leaves all else as it was, memory and row byte for byte
 abbrev pub ZeroIsNoPulse : Type 0
 ZeroIsNoPulse =
-    (w : World) (k v : ℕ) → StoresTo w k v → low 32 v ≡ 0 → markAt k (w .board .row) ≡ 0
-    → (completes w ≡ true) × (stepped w .st .count ≡ w .st .count + 1) × (stepped w .board ≡ w .board)
+    (w : World) (k v : ℕ) (s : StoresTo w k v) → low 32 v ≡ 0 → markAt k (w .board .row) ≡ 0
+    → (completes w ≡ true) × (stepped w ≡ world (advanced (s .next) (w .st)) (w .board))
 
 -- of any value, also 0, to a burnt word: it stops with 9, and memory and row are as they were
 abbrev pub BurntStops : Type 0

@@ -83,13 +83,14 @@ pub fn text(lost: &[Lost]) -> String {
     words.join(", ")
 }
 
-/// The burnt words of a row, as index and value.
+/// The burnt words of a row, as index and value. A word that an older version marked for a store of
+/// zero got no pulse: its part is blank there.
 pub fn burnt_words(row: &Row) -> Vec<(usize, u32)> {
     let words = row.words().enumerate();
     words
         .filter_map(|(index, word)| match word {
+            Word::Burnt(0) | Word::Blank => None,
             Word::Burnt(value) => Some((index, value)),
-            Word::Blank => None,
         })
         .collect()
 }

@@ -39,10 +39,10 @@ fn broken_rule(record: &[u8]) -> Option<String> {
     }
     match (record[4], value) {
         (0, 0) => None,
-        (0, value) => Some(format!("blank, with value {value}")),
-        (1, 0) => Some("mark 1 with value 0".to_string()),
+        (0, value) => Some(format!("mark 0 with value {value}, and a blank word has 0")),
+        (1, 0) => Some("mark 1 with value 0, and a burnt word has another".to_string()),
         (1, _) => None,
-        (mark, _) => Some(format!("mark {mark}")),
+        (mark, _) => Some(format!("mark {mark}, and a mark is 0 or 1")),
     }
 }
 
