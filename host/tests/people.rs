@@ -187,25 +187,25 @@ fn swapped_rows_are_refused() {
 fn an_exchanged_part_is_accepted_by_name() {
     let folder = with_words(4);
     assert_eq!(folder.run("--slot 0 --budget 8").code, 10);
-    folder.write("part.row", &row_of(&[(0, 5)]));
-    let words = ["word 0 (burnt with 100) is 5, word 1 (burnt with 101) is blank"];
+    folder.write("part.row", &row_of(&[(10, 5)]));
+    let words = ["word 0 (burnt with 100) is blank, word 1 (burnt with 101) is blank"];
     is_refused(&folder, "--slot 0 --budget 4", 9, &words);
-    let accepted = folder.run("--slot 0 --budget 4 --accept-row");
+    // What the run burnt is not on this part: carried on, it would come out half trimmed.
+    let line = run_line("--slot 0 --budget 4 --accept-row");
+    folder.fails(&line, 7, &["burnt words", "--accept-row --restart"]);
+    let accepted = folder.call(&format!("{line} --restart"));
     assert_eq!(accepted.code, 10, "{}", accepted.err);
     assert!(accepted.err.contains("accepted"), "{}", accepted.err);
     assert!(accepted.err.contains(words[0]), "{}", accepted.err);
-    // Of the words that the run burnt on the old part, none is on this one.
     let facts = "1 word burnt since the recipe's start, 1 of them in this run\n\
-                 word 2 burnt with 102 (0x00000066) in this run\n";
+                 word 0 burnt with 100 (0x00000064) in this run\n";
     assert!(accepted.out.ends_with(facts), "{}", accepted.out);
     // From now on it is this part that is known.
     assert_eq!(folder.run("--slot 0 --budget 100").code, 0);
-    assert_eq!(
-        folder.get("part.row"),
-        row_of(&[(0, 5), (2, 102), (3, 103)])
-    );
+    let all = [(0, 100), (1, 101), (2, 102), (3, 103), (10, 5)];
+    assert_eq!(folder.get("part.row"), row_of(&all));
     folder.write("part.row", &burnt(4));
-    let words = ["word 0 (burnt with 5) is 100"];
+    let words = ["word 10 (burnt with 5) is blank"];
     is_refused(&folder, "--slot 0 --budget 4", 9, &words);
 }
 
@@ -218,17 +218,17 @@ fn a_run_paused_on_the_old_part_is_asked_for_itself() {
     folder.write("part.row", &[0; ROW]);
     let other = folder.run("--slot 1 --budget 1 --accept-row --restart");
     assert_eq!(other.code, 10, "{}", other.err);
-    for mode in ["", "--resume", "--dry-run"] {
+    for mode in ["", "--dry-run"] {
         let line = run_line(&format!("--slot 0 --budget 9 {mode}"));
-        folder.fails(&line, 9, &["word 0 (burnt with 100) is blank"]);
+        folder.fails(&line, 7, &["saved later", "slot 1", "--resume"]);
     }
-    assert_eq!(folder.run("--slot 0 --budget 0 --accept-row").code, 10);
-    // Once accepted it is this part's run.
-    assert_eq!(folder.run("--slot 0 --budget 100 --resume").code, 0);
-    assert_eq!(
-        folder.get("part.row"),
-        row_of(&[(1, 101), (2, 102), (3, 103)])
-    );
+    let line = run_line("--slot 0 --budget 9 --resume");
+    folder.fails(&line, 9, &["word 0 (burnt with 100) is blank"]);
+    let line = run_line("--slot 0 --budget 100 --accept-row");
+    folder.fails(&format!("{line} --resume"), 7, &["--accept-row --restart"]);
+    // Started over it is this part's run.
+    assert_eq!(folder.call(&format!("{line} --restart")).code, 0);
+    assert_eq!(folder.get("part.row"), burnt(4));
 }
 
 // Point 3.
@@ -753,15 +753,24 @@ fn the_run_that_was_last_paused_is_remembered_until_its_own_end() {
     );
     let third = line_in("third.slots", "--budget 9");
     is_refused_beside(&folder, &third, "more.slots", 0);
-    assert_eq!(folder.run("--slot 0 --budget 2").code, 10);
-    assert_eq!(folder.call(&format!("{other} --budget 100")).code, 0);
+    // Of the two the default carries on the one that was saved last.
+    folder.fails(
+        &run_line("--slot 0 --budget 2"),
+        7,
+        &["more.slots", "--resume"],
+    );
+    assert_eq!(folder.run("--slot 0 --budget 2 --resume").code, 10);
+    assert_eq!(
+        folder.call(&format!("{other} --budget 100 --resume")).code,
+        0
+    );
     is_refused_beside(&folder, &third, "line.slots", 0);
     assert_eq!(folder.run("--slot 0 --budget 100").code, 0);
     assert_eq!(folder.call(&third).code, 19);
 }
 
 #[test]
-fn a_run_that_is_not_there_any_more_keeps_no_other_from_starting() {
+fn a_run_that_is_away_is_waited_for_until_it_is_given_up() {
     let mistyped = line_in("lien.slots", "--budget 100");
     let remembers = |folder: &Folder| {
         let seen = folder.get("part.row.seen");
@@ -777,16 +786,16 @@ fn a_run_that_is_not_there_any_more_keeps_no_other_from_starting() {
     assert_eq!(folder.call("forget line.slots 0 --yes").code, 0);
     assert!(!remembers(&folder));
     assert_eq!(folder.call(&mistyped).code, 19);
-    // Gone, or damaged: it could not be carried on there.
+    // Gone, or damaged: a folder that is not mounted, a file that will be brought back.
+    let words = ["line.slots", "bring it back", "--restart"];
     let folder = paused();
     folder.remove("line.slots.0.memory");
-    assert_eq!(folder.call(&mistyped).code, 19);
+    folder.fails(&mistyped, 6, &words);
     let folder = paused();
     folder.write("line.slots.0.memory", b"torn");
-    assert_eq!(folder.call(&mistyped).code, 19);
-    let folder = paused();
-    folder.write("line.slots.0.memory", b"torn");
-    let beside = folder.run("--slot 1 --budget 100");
+    folder.fails(&mistyped, 6, &words);
+    folder.fails(&run_line("--slot 1 --budget 100"), 6, &words);
+    let beside = folder.run("--slot 1 --budget 100 --restart");
     assert_eq!(beside.code, 19);
     assert!(beside.err.contains("line.slots.0.memory: damaged"));
     assert!(beside.err.contains("passed over"));
@@ -1151,9 +1160,40 @@ fn a_full_or_closed_standard_error_ends_no_run() {
         assert!(!done.err.contains("panic"), "{}", done.err);
         assert_eq!(folder.get("part.row"), burnt(1));
         let failed = in_shell(&folder, &format!("phuyurik {run} {ends}"));
-        assert_eq!(failed.code, 2, "{ends}");
+        // The end that no one heard of is told again.
+        assert_eq!(failed.code, if code == 8 { 8 } else { 2 }, "{ends}");
         assert!(!failed.err.contains("panic"), "{}", failed.err);
     }
+}
+
+/// The command of a new part, given again after a pause.
+#[test]
+fn the_command_of_a_new_part_is_repeated_to_the_recipes_end() {
+    let folder = with_words(4);
+    folder.remove("part.row");
+    let line = run_line("--slot 0 --budget 4 --new");
+    for _ in 0..4 {
+        assert_eq!(folder.call(&line).code, 10);
+    }
+    assert_eq!(folder.call(&line).code, 0);
+    assert_eq!(folder.get("part.row"), burnt(4));
+    // It has been told: now the part is none that is new.
+    folder.fails(&line, 2, &["--new", "there already"]);
+}
+
+/// A copy of a paused run, beside it or in another folder, is not carried on unasked.
+#[test]
+fn a_copy_of_a_paused_run_is_told_from_it() {
+    let folder = with_words(4);
+    assert_eq!(folder.run("--slot 0 --budget 6").code, 10);
+    for name in ["", ".0.memory"] {
+        let bytes = folder.get(&format!("line.slots{name}"));
+        folder.write(&format!("copy.slots{name}"), &bytes);
+    }
+    let copy = line_in("copy.slots", "--budget 100");
+    folder.fails(&copy, 7, &["line.slots", "copy", "--resume"]);
+    assert_eq!(folder.run("--slot 0 --budget 100").code, 0);
+    assert_eq!(folder.get("part.row"), burnt(4));
 }
 
 // Point 10.
@@ -1234,7 +1274,7 @@ fn a_dry_run_with_an_accepted_row_accepts_nothing() {
     assert_eq!(folder.run("--slot 0 --budget 5").code, 10);
     folder.write("part.row", &[0; ROW]);
     let before = folder.snapshot();
-    let dry = folder.run("--slot 0 --budget 100 --dry-run --accept-row");
+    let dry = folder.run("--slot 0 --budget 100 --dry-run --accept-row --restart");
     assert_eq!(dry.code, 0, "{}", dry.err);
     folder.is_as(&before);
     folder.fails(

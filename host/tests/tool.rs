@@ -226,7 +226,11 @@ fn a_refusal_of_the_image_or_the_row_is_30_and_its_number() {
     }
     let rules = [
         (0, 1, "word 0: mark 0 with value 1, and a blank word has 0"),
-        (4, 1, "word 0: mark 1 with value 0, and a burnt word has another"),
+        (
+            4,
+            1,
+            "word 0: mark 1 with value 0, and a burnt word has another",
+        ),
         (12, 2, "word 1: mark 2, and a mark is 0 or 1"),
         (5, 1, "word 0: bytes 5 to 7 are not zero"),
         (511, 1, "word 63: bytes 5 to 7 are not zero"),

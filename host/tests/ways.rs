@@ -314,7 +314,12 @@ fn a_folder_is_moved() {
     bench.paused("part.row", 0, 2);
     bench.paused("other.row", 1, 1);
     bench.moved("elsewhere");
-    bench.is_refused("part.row", 0, 7, &["another row", "part.row"]);
+    bench.is_refused(
+        "part.row",
+        0,
+        7,
+        &["which is not there", "adopt", "part.row"],
+    );
     let done = bench.way_out("phuyurik adopt line.slots 0 --row part.row");
     assert!(done.contains("is told that its row is part.row"));
     bench.way_out("phuyurik adopt line.slots 1 --row other.row");

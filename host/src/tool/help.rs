@@ -152,9 +152,12 @@ this row is paused elsewhere. So the same command, repeated while it exits with
   --resume      carries the run in slot K on or tells its end, and never starts
   --restart     starts anew, on the row as it is, although a run on this row is
                 paused: in slot K, which gives that run up, or elsewhere
-  --new         the part is new: its row is not there yet, and is made blank
+  --new         the part is new: its row is not there yet, and is made blank;
+                the same command may be given again until its run has ended
   --accept-row  the part was exchanged: the row is taken as it is, although
-                words of it are known to be burnt that are blank or other there
+                words of it are known to be burnt that are blank or other
+                there; a run that burnt any of them is not carried on over the
+                new part, but started over with --restart
   --memory N    memory of N bytes: the image, and zeros after it
   --piece N     saves after every N steps (default 5000000)
   --dry-run     runs on copies and tells which words would be burnt; no file is

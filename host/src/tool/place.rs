@@ -33,14 +33,20 @@ impl Place {
     }
 
     /// Whether a run on this row is paused here. What cannot be read is no such run.
-    fn has_paused(&self, view: &View, row_path: &Path) -> bool {
+    pub fn has_paused(&self, view: &View, row_path: &Path) -> bool {
         let there = view.memory(&self.slots_path, self.slot);
         matches!(there, Ok(Some(run)) if run.row_path == row_path && run.is_paused())
+    }
+
+    /// Whether what was paused here cannot be read now: its folder may be away for a moment.
+    pub fn is_away(&self, view: &View) -> bool {
+        !matches!(view.memory(&self.slots_path, self.slot), Ok(Some(_)))
     }
 }
 
 /// Where runs are paused on a row: in the slots of this slots file, and where `ROW.seen` remembers
-/// one, if it is still so there. A damaged `ROW.seen` is told of by whoever needs its words.
+/// one, unless another run or its end is found there. A damaged `ROW.seen` is told of by whoever
+/// needs its words.
 pub fn of_paused(view: &View, row_path: &Path, slots_path: &Path) -> Result<Vec<Place>, Error> {
     let here = |slot| Place {
         slots_path: slots_path.to_path_buf(),
@@ -48,9 +54,10 @@ pub fn of_paused(view: &View, row_path: &Path, slots_path: &Path) -> Result<Vec<
     };
     let slots = view.slots_with_memory(slots_path)?;
     let mut places: Vec<Place> = slots.into_iter().map(here).collect();
-    let seen = view.seen(row_path).unwrap_or_default();
-    places.extend(seen.last_paused);
     places.retain(|place| place.has_paused(view, row_path));
+    let last = view.seen(row_path).unwrap_or_default().last_paused;
+    let is_open = |place: &Place| place.has_paused(view, row_path) || place.is_away(view);
+    places.extend(last.filter(is_open));
     Ok(places)
 }
 

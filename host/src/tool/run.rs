@@ -6,7 +6,7 @@ use super::files::{self, Lock};
 use super::going::{Burnt, Going};
 use super::image::{self, Image};
 use super::journal::{self, ImageMark, Memory, Moment, MOST_SLOTS};
-use super::known::{self, RowKnown, Seen};
+use super::known::{self, Known, RowKnown, Seen};
 use super::place::{self, Place};
 use super::row_file;
 use super::settling::Locks;
@@ -141,6 +141,8 @@ impl Job<'_> {
                 let why = "missing; the row of a new part is made with --new";
                 Err(Error::missing(&self.row_path, why))
             }
+            // The same command again, after a pause, a kill or a power cut.
+            (Some(_), true) if self.is_under_way(view) => Ok(row),
             (Some(_), true) => {
                 let row = self.row_path.display();
                 let why = format!("--new: {row} is there already; leave --new out");
@@ -148,6 +150,14 @@ impl Job<'_> {
             }
             _ => Ok(row),
         }
+    }
+
+    /// Whether the slot holds this very run, and it has not come to its end, or no one heard of it.
+    fn is_under_way(&self, view: &View) -> bool {
+        let image = ImageMark::of(&self.image.bytes);
+        let is_this = |run: &Memory| run.row_path == self.row_path && run.image == image;
+        let there = view.memory(&self.slots_path, self.order.slot);
+        matches!(there, Ok(Some(run)) if is_this(&run) && (run.is_paused() || !run.told))
     }
 
     /// The slots' bytes, as they will be when this run's slot is there.
@@ -218,13 +228,37 @@ impl Job<'_> {
         let is_other =
             |place: &&Place| place.slot != self.order.slot || place.slots_path != self.slots_path;
         let other = paused.iter().find(is_other);
+        let last = view.seen(&self.row_path).unwrap_or_default().last_paused;
+        let later = last.filter(|place| is_other(&place) && place.has_paused(view, &self.row_path));
         match (paused.first(), other) {
             (Some(place), _) if is_new && !self.order.accept_row => Err(self.awaited(place)),
-            (_, Some(other)) if is_start && self.order.mode == Mode::Either => {
-                Err(self.paused_elsewhere(other))
-            }
+            _ if self.order.mode != Mode::Either => Ok(()),
+            (_, Some(other)) if is_start && other.is_away(view) => Err(self.paused_away(other)),
+            (_, Some(other)) if is_start => Err(self.paused_elsewhere(other)),
+            _ if !is_start => later.map_or(Ok(()), |place| Err(self.saved_later(&place))),
             _ => Ok(()),
         }
+    }
+
+    /// A folder that is not mounted, or a file that was moved: what was paused may come back.
+    fn paused_away(&self, place: &Place) -> Error {
+        let (k, slots) = (place.slot, place.slots_path.display());
+        let why = format!(
+            "a run on it was paused in slot {k} of {slots}, which cannot be read now: bring it back; \
+             --restart starts anew all the same"
+        );
+        Error::missing(&self.row_path, why)
+    }
+
+    /// Of two runs on one row that are paused, the default carries on the one that was saved last:
+    /// the other may be an old copy of it.
+    fn saved_later(&self, place: &Place) -> Error {
+        let (k, slots) = (place.slot, place.slots_path.display());
+        let why = format!(
+            "a run on it was saved later in slot {k} of {slots}: is this one a copy? --resume carries \
+             it on all the same"
+        );
+        Error::other_run(&self.row_path, why)
     }
 
     fn awaited(&self, place: &Place) -> Error {
@@ -273,6 +307,7 @@ impl Job<'_> {
         let accept = self.order.accept_row;
         let mut known = RowKnown::read(view, &self.row_path, &self.slots_path, accept)?;
         if let Some(saved) = &saved {
+            self.may_be_carried_over(saved, &row)?;
             known.known.add(&saved.row);
         }
         let accepted = self.agree(&mut known, &row, watch)?;
@@ -294,6 +329,20 @@ impl Job<'_> {
             going.save()?;
         }
         Ok(going)
+    }
+
+    /// A recipe that has burnt words of one part is not carried on over another one, which would come
+    /// out half trimmed.
+    fn may_be_carried_over(&self, run: &Memory, row: &Row) -> Result<(), Error> {
+        let lost = Known::of(&run.row).lost_in(row);
+        let is_its_own = |word: &known::Lost| run.burnt >> word.index & 1 == 1;
+        if !self.order.accept_row || !lost.iter().any(is_its_own) {
+            return Ok(());
+        }
+        let why =
+            "of a run that has burnt words of the part that was here: a new one is trimmed from \
+                   the start (--accept-row --restart)";
+        Err(Error::other_run(&self.slot().memory_path(), why))
     }
 
     /// Whoever resumes by name knows that he does.

@@ -46,7 +46,7 @@ impl Slot<'_> {
         )
     }
 
-    fn memory_path(&self) -> PathBuf {
+    pub fn memory_path(&self) -> PathBuf {
         journal::memory_of(self.slots_path, self.k)
     }
 
@@ -93,12 +93,7 @@ impl Slot<'_> {
                 Err(Error::missing(&self.memory_path(), why))
             }
             (Content::Paused(run), _) if run.row_path != owner.row_path => {
-                let row = run.row_path.display();
-                let why = format!(
-                    "holds a paused run on another row, {row}: choose another slot, or give that \
-                     run up (forget {slots} {k})"
-                );
-                Err(self.error(Error::other_run, why))
+                Err(self.error(Error::other_run, self.of_another_row(&run, owner)))
             }
             (Content::Paused(run), Mode::Either) => {
                 self.is_of(&run, owner)?;
@@ -120,11 +115,28 @@ impl Slot<'_> {
         !run.told && !owner.part.is_new && self.is_of(run, owner).is_ok() && is_its_part()
     }
 
+    /// A row that is not where the run knows it was moved or renamed, perhaps to the one given.
+    fn of_another_row(&self, run: &Memory, owner: &Owner) -> String {
+        let (row, given) = (run.row_path.display(), owner.row_path.display());
+        let (slots, k) = (self.slots_path.display(), self.k);
+        match run.row_path.exists() {
+            true => format!(
+                "holds a paused run on another row, {row}: choose another slot, or give that run up \
+                 (forget {slots} {k})"
+            ),
+            false => format!(
+                "holds a paused run on {row}, which is not there: bring it back, or, if it was moved, \
+                 tell the run so (adopt {slots} {k} --row {given})"
+            ),
+        }
+    }
+
     fn is_of(&self, run: &Memory, owner: &Owner) -> Result<(), Error> {
         let why = if run.row_path != owner.row_path {
             format!("of a run on another row, {}", run.row_path.display())
         } else if run.image != owner.image {
-            "of a run of another image (--restart gives it up)".to_string()
+            "of a run of another image: name the one it began with (--restart gives it up)"
+                .to_string()
         } else if owner.memory.is_some_and(|length| length != run.bytes.len()) {
             let length = run.bytes.len();
             format!("of a run with a memory of {length} bytes (--restart gives it up)")
