@@ -168,7 +168,7 @@ static const struct {
     {0x00100073, 7, 8},          /* ebreak */
 };
 
-static void show_stop(const struct bench *b) {
+static void show_address(const struct bench *b) {
     printf("%s: %s 0x%08x\n", phuyurik_stop_text(b->state.stop),
            phuyurik_stop_has_address(b->state.stop) ? "address" : "no address,",
            (unsigned)b->state.address);
@@ -186,12 +186,12 @@ static int addresses(struct bench *b) {
         b->state.pc = 4;
         b->state.x[0] = steps[i].x1;
         if (phuyurik_step(&b->state, memory, steps[i].memory_size, b->row, sizeof b->row)) return 1;
-        show_stop(b);
+        show_address(b);
     }
     start(b);
     b->state.count = UINT64_MAX;
     if (phuyurik_step(&b->state, memory, sizeof memory, b->row, sizeof b->row)) return 1;
-    show_stop(b);
+    show_address(b);
     return 0;
 }
 
