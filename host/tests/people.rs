@@ -1181,6 +1181,23 @@ fn the_command_of_a_new_part_is_repeated_to_the_recipes_end() {
     folder.fails(&line, 2, &["--new", "there already"]);
 }
 
+/// The folder of the slots is not mounted, and the same command is given.
+#[test]
+fn a_run_whose_own_slots_are_away_is_not_started_over() {
+    let folder = with_words(4);
+    assert_eq!(folder.run("--slot 0 --budget 6").code, 10);
+    let names = ["line.slots", "line.slots.0.memory", "line.slots.0.lock"];
+    let files = names.map(|name| (name, folder.get(name)));
+    names.iter().for_each(|name| folder.remove(name));
+    let line = run_line("--slot 0 --budget 100");
+    folder.fails(&line, 6, &["line.slots", "bring it back", "--restart"]);
+    for (name, bytes) in files {
+        folder.write(name, &bytes);
+    }
+    assert_eq!(folder.call(&line).code, 0);
+    assert_eq!(folder.get("part.row"), burnt(4));
+}
+
 /// A copy of a paused run, beside it or in another folder, is not carried on unasked.
 #[test]
 fn a_copy_of_a_paused_run_is_told_from_it() {

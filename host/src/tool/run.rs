@@ -228,12 +228,16 @@ impl Job<'_> {
         let is_other =
             |place: &&Place| place.slot != self.order.slot || place.slots_path != self.slots_path;
         let other = paused.iter().find(is_other);
+        // Also this very slot, where all of its slots file is gone: its folder is not mounted, perhaps.
+        let all_gone = view.slots(&self.slots_path)?.is_none();
+        let is_away = |place: &&Place| place.is_away(view) && (is_other(place) || all_gone);
+        let away = paused.iter().find(is_away);
         let last = view.seen(&self.row_path).unwrap_or_default().last_paused;
         let later = last.filter(|place| is_other(&place) && place.has_paused(view, &self.row_path));
         match (paused.first(), other) {
             (Some(place), _) if is_new && !self.order.accept_row => Err(self.awaited(place)),
             _ if self.order.mode != Mode::Either => Ok(()),
-            (_, Some(other)) if is_start && other.is_away(view) => Err(self.paused_away(other)),
+            _ if is_start && away.is_some() => away.map_or(Ok(()), |at| Err(self.paused_away(at))),
             (_, Some(other)) if is_start => Err(self.paused_elsewhere(other)),
             _ if !is_start => later.map_or(Ok(()), |place| Err(self.saved_later(&place))),
             _ => Ok(()),
