@@ -23,10 +23,11 @@ one-to-one number back f {a} {b} e = sym (f a) ∙ ap back e ∙ f b
 abbrev refusalOf : ℕ → Refusal
 refusalOf n =
     getD
-    (R.MemoryTooLong ∷ R.RowLength ∷ R.RowRecord ∷ R.Slot ∷ R.State ∷ R.Room ∷ R.NoInstruction ∷ R.Field ∷ R.NoShortForm ∷ [])
+    (R.MemoryTooLong ∷ R.RowLength ∷ R.RowRecord ∷ R.Slot ∷ R.State ∷ R.Room ∷ R.NoInstruction ∷ R.Field ∷ R.NoShortForm ∷ R.Unreadable
+    ∷ R.NumberNotAllowed ∷ R.NoShortLine ∷ R.OutputRoom ∷ [])
     (n - 1) R.MemoryTooLong
 
-pub refusal-numbered : (r : Refusal) → Numbered numberOf refusalOf 1 9 r
+pub refusal-numbered : (r : Refusal) → Numbered numberOf refusalOf 1 13 r
 refusal-numbered R.MemoryTooLong = (refl, lit≤ tt, lit≤ tt)
 refusal-numbered R.RowLength = (refl, lit≤ tt, lit≤ tt)
 refusal-numbered R.RowRecord = (refl, lit≤ tt, lit≤ tt)
@@ -36,6 +37,10 @@ refusal-numbered R.Room = (refl, lit≤ tt, lit≤ tt)
 refusal-numbered R.NoInstruction = (refl, lit≤ tt, lit≤ tt)
 refusal-numbered R.Field = (refl, lit≤ tt, lit≤ tt)
 refusal-numbered R.NoShortForm = (refl, lit≤ tt, lit≤ tt)
+refusal-numbered R.Unreadable = (refl, lit≤ tt, lit≤ tt)
+refusal-numbered R.NumberNotAllowed = (refl, lit≤ tt, lit≤ tt)
+refusal-numbered R.NoShortLine = (refl, lit≤ tt, lit≤ tt)
+refusal-numbered R.OutputRoom = (refl, lit≤ tt, lit≤ tt)
 
 -- two refusals with one number are one
 pub number-of-one : {p q : Refusal} → numberOf p ≡ numberOf q → p ≡ q

@@ -1,7 +1,7 @@
 -- The refusal numbers, as the paper's table lists them.
 use Prim.Native.Nat.{ℕ}
 use Rattle.answers.specs.declared.Refusal.{Refusal}
-use Rattle.answers.specs.declared.Refusal.the-variants.{MemoryTooLong, RowLength, RowRecord, Slot, State, Room, NoInstruction, Field, NoShortForm}
+use Rattle.answers.specs.declared.Refusal.the-variants.{MemoryTooLong, RowLength, RowRecord, Slot, State, Room, NoInstruction, Field, NoShortForm, Unreadable, NumberNotAllowed, NoShortLine, OutputRoom}
 
 abbrev pub numberOf : Refusal → ℕ
 -- memory longer than 65,536
@@ -22,3 +22,11 @@ numberOf NoInstruction = 7
 numberOf Field = 8
 -- no short form
 numberOf NoShortForm = 9
+-- a line that cannot be read
+numberOf Unreadable = 10
+-- a number or offset of a line that is not allowed
+numberOf NumberNotAllowed = 11
+-- a line with c: that has no short form
+numberOf NoShortLine = 12
+-- output room shorter than the whole output
+numberOf OutputRoom = 13

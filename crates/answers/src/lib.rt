@@ -14,6 +14,10 @@ pub enum Refusal {
     NoInstruction,
     Field,
     NoShortForm,
+    Unreadable,
+    NumberNotAllowed,
+    NoShortLine,
+    OutputRoom,
 }
 
 impl Refusal {
@@ -30,6 +34,10 @@ impl Refusal {
             Refusal::NoInstruction => 7,
             Refusal::Field => 8,
             Refusal::NoShortForm => 9,
+            Refusal::Unreadable => 10,
+            Refusal::NumberNotAllowed => 11,
+            Refusal::NoShortLine => 12,
+            Refusal::OutputRoom => 13,
         }
     }
 }

@@ -50,7 +50,7 @@ fn without_immediate(operation: u8, rd: Reg, rs1: Reg, rs2: Reg) -> Inst
 }
 
 // The instruction of an operation's number at these operands.
-fn built(operation: u8, rd: Reg, rs1: Reg, rs2: Reg, imm: u32) -> Inst
+pub fn built(operation: u8, rd: Reg, rs1: Reg, rs2: Reg, imm: u32) -> Inst
     ensures { λ r. ⌜ r ≡ built (parts operation (rd .number) (rs1 .number) (rs2 .number) imm) ⌝ }
 {
     match operation {

@@ -119,15 +119,15 @@ ChartFilled = count filled 256 ≡ 57
 
 -- ---- the numbers themselves
 
--- every refusal's number is 1 to 9, and no two have one number
+-- every refusal's number is 1 to 13, and no two have one number
 abbrev pub RefusalNumbers : Type 0
-RefusalNumbers = ((r : Refusal) → (1 ≤ numberOf r) × (numberOf r ≤ 9)) × ((r s : Refusal) → numberOf r ≡ numberOf s → r ≡ s)
+RefusalNumbers = ((r : Refusal) → (1 ≤ numberOf r) × (numberOf r ≤ 13)) × ((r s : Refusal) → numberOf r ≡ numberOf s → r ≡ s)
 
 -- every stop's number is 1 to 10, and no two have one number
 abbrev pub StopNumbers : Type 0
 StopNumbers = ((s : Stop) → (1 ≤ stopNumber s) × (stopNumber s ≤ lastStop)) × ((s t : Stop) → stopNumber s ≡ stopNumber t → s ≡ t)
 
--- an answer gives values, or it is one of the nine refusals
+-- an answer gives values, or it is one of the refusals
 abbrev pub IsGiven : {A : Type 0} → Answer A → Type 0
 IsGiven {A} a = (v : A) × (a ≡ given v)
 

@@ -1,4 +1,5 @@
 pub mod Names
+pub mod Samples
 pub mod Lengths
 pub mod ShortLengths
 pub mod Distinct

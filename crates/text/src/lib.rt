@@ -8,11 +8,12 @@ use isa::Reg;
 use parts::parts_of;
 ghost use mathlib.Core.Path.{_≡_};
 ghost use mathlib.Core.List.{_∷_, _++_};
-ghost use Prim.Native.Nat.{_+_, _≤_};
+ghost use Prim.Native.Nat.{_+_, _≤_, _<_};
 ghost use lib.ListN.{length, getD, drop};
 ghost use Rattle.ascii.specs.Numbers.{signedDecimal};
 ghost use Rattle.ascii.specs.Rooms.{Wrote};
 ghost use Rattle.text.specs.Names.{nameAt};
+ghost use Rattle.text.specs.Samples.{sampleLine};
 ghost use Rattle.text.specs.Text.{space, comma, parens, registerText, shown, operandsOf, textOf, shortTextOf};
 
 // An operand as its text shows it: a register, an unsigned number, or a number in two's complement.
@@ -22,36 +23,88 @@ pub enum Operand {
     Signed(u32),
 }
 
-// The names of the 48 operations in the paper's order, each in six bytes with spaces after it.
-const NAMES: [u8; 288] = *b"\
-    lui   auipc jal   jalr  \
-    beq   bne   blt   bge   \
-    bltu  bgeu  lb    lh    \
-    lw    lbu   lhu   sb    \
-    sh    sw    addi  slti  \
-    sltiu xori  ori   andi  \
-    slli  srli  srai  add   \
-    sub   sll   slt   sltu  \
-    xor   srl   sra   or    \
-    and   fence ecall ebreak\
-    mul   mulh  mulhsumulhu \
-    div   divu  rem   remu  ";
+// A line of each operation, in the paper's order, with 1, 2, 3 and 4 as rd, rs1, rs2 and immediate,
+// each in sixteen bytes: the names that the disassembler writes, and the shapes that the assembler
+// reads by.
+const LINES: [u8; 768] = *b"\
+    lui x1,4\n\0\0\0\0\0\0\0\
+    auipc x1,4\n\0\0\0\0\0\
+    jal x1,4\n\0\0\0\0\0\0\0\
+    jalr x1,4(x2)\n\0\0\
+    beq x2,x3,4\n\0\0\0\0\
+    bne x2,x3,4\n\0\0\0\0\
+    blt x2,x3,4\n\0\0\0\0\
+    bge x2,x3,4\n\0\0\0\0\
+    bltu x2,x3,4\n\0\0\0\
+    bgeu x2,x3,4\n\0\0\0\
+    lb x1,4(x2)\n\0\0\0\0\
+    lh x1,4(x2)\n\0\0\0\0\
+    lw x1,4(x2)\n\0\0\0\0\
+    lbu x1,4(x2)\n\0\0\0\
+    lhu x1,4(x2)\n\0\0\0\
+    sb x3,4(x2)\n\0\0\0\0\
+    sh x3,4(x2)\n\0\0\0\0\
+    sw x3,4(x2)\n\0\0\0\0\
+    addi x1,x2,4\n\0\0\0\
+    slti x1,x2,4\n\0\0\0\
+    sltiu x1,x2,4\n\0\0\
+    xori x1,x2,4\n\0\0\0\
+    ori x1,x2,4\n\0\0\0\0\
+    andi x1,x2,4\n\0\0\0\
+    slli x1,x2,4\n\0\0\0\
+    srli x1,x2,4\n\0\0\0\
+    srai x1,x2,4\n\0\0\0\
+    add x1,x2,x3\n\0\0\0\
+    sub x1,x2,x3\n\0\0\0\
+    sll x1,x2,x3\n\0\0\0\
+    slt x1,x2,x3\n\0\0\0\
+    sltu x1,x2,x3\n\0\0\
+    xor x1,x2,x3\n\0\0\0\
+    srl x1,x2,x3\n\0\0\0\
+    sra x1,x2,x3\n\0\0\0\
+    or x1,x2,x3\n\0\0\0\0\
+    and x1,x2,x3\n\0\0\0\
+    fence x1,x2,4\n\0\0\
+    ecall\n\0\0\0\0\0\0\0\0\0\0\
+    ebreak\n\0\0\0\0\0\0\0\0\0\
+    mul x1,x2,x3\n\0\0\0\
+    mulh x1,x2,x3\n\0\0\
+    mulhsu x1,x2,x3\n\
+    mulhu x1,x2,x3\n\0\
+    div x1,x2,x3\n\0\0\0\
+    divu x1,x2,x3\n\0\0\
+    rem x1,x2,x3\n\0\0\0\
+    remu x1,x2,x3\n\0\0";
+
+// The byte of an operation's line at k, and 0 after its end.
+pub fn sample_byte(operation: u8, k: usize) -> u8
+    requires { ⌜ operation < 48 ⌝ }
+    ensures { λ r. ⌜ r ≡ getD (sampleLine operation) k 0 ⌝ }
+{
+    if k >= 16 {
+        return 0;
+    }
+    LINES[operation as usize * 16 + k]
+}
 
 // The byte of a name at k, and a space after its end.
 fn letter(operation: u8, k: usize) -> u8
+    requires { ⌜ k ≤ length (nameAt operation) ⌝ }
     ensures { λ r. ⌜ r ≡ getD (nameAt operation) k 32 ⌝ }
 {
     if operation >= 48 {
         return b' ';
     }
-    if k >= 6 {
+    let byte = sample_byte(operation, k);
+    if byte <= b' ' {
         return b' ';
     }
-    NAMES[operation as usize * 6 + k]
+    byte
 }
 
 // An operation's name from its byte k on.
 fn put_name_from(room: &mut [u8], at: usize, operation: u8, k: usize) -> usize
+    requires { ⌜ k ≤ length (nameAt operation) ⌝ }
     requires { ⌜ at + length (drop k (nameAt operation)) ≤ length (now room) ⌝ }
     ensures { λ r. ⌜ Wrote (now (room .entry)) at (drop k (nameAt operation)) (now (room .exit)) r ⌝ }
 {

@@ -2,8 +2,8 @@
 //! asks anything of its caller.
 use contracts::{all, contracts, document, root, Contract};
 
-// The one public function that answers and leaves nothing: docs/EXCEPTIONS.md says why.
-const NO_CONTRACT: [&str; 1] = ["image_io::list_from"];
+// The public functions that answer and leave nothing: docs/EXCEPTIONS.md says why.
+const NO_CONTRACT: [&str; 2] = ["image_io::list_from", "assembly_io::assemble_from"];
 
 #[test]
 fn every_public_contract_is_an_equation() {
@@ -19,7 +19,8 @@ fn every_public_contract_is_an_equation() {
 }
 
 // What a host calls, besides the exports.
-const ENTRIES: [&str; 17] = [
+const ENTRIES: [&str; 18] = [
+    "assembler::assemble",
     "machine::step",
     "machine::run",
     "slots::write_slot",

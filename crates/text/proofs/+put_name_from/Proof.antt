@@ -50,7 +50,7 @@ pub +put-name-from-spec : {M : Type 1} → statement M
     let a = c .before .before .before .before .before .before .before .before .args in
     let l = c .before .before .before .before .before .before .letter in
     let g = name-goes-on (a .operation) (a .k) (λ e. let z : l .result ≡ 32 = l .ensures ∙ e in omega arith) in
-    (omega (arith, g .0), omega (arith, ap length (g .1))))
+    (omega (arith, g .0), (omega (arith, g .0), omega (arith, ap length (g .1)))))
     (λ c. search needs)
     (λ c.
     let a = c .before .before .before .before .before .before .before .before .before .before .before .args in

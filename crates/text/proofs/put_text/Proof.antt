@@ -13,7 +13,7 @@ put-name-from-requires : tie.Need-put-name-from-requires
 unfolding textOf
 put-name-from-requires c κs =
     let a = c .before .before .before .args in
-    rw (c .parts-of .ensures) (omega (arith, length-append (nameAt (partsOf (a .i) .operation)) (operandsOf (a .i))))
+    (omega arith, rw (c .parts-of .ensures) (omega (arith, length-append (nameAt (partsOf (a .i) .operation)) (operandsOf (a .i)))))
 
 put-operands-requires : tie.Need-put-operands-requires
 unfolding textOf

@@ -1,0 +1,3 @@
+fn main() {
+    assembly_io::assemble_from(libc::STDIN_FILENO);
+}

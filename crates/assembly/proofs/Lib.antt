@@ -1,0 +1,9 @@
+pub mod Runs
+pub mod Scanning
+pub mod Places
+pub mod Numerals
+pub mod Forms
+pub mod Back
+pub mod Only
+pub mod Refusals
+pub mod Steps

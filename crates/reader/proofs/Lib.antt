@@ -1,0 +1,4 @@
+pub mod Pieces
+pub mod Following
+pub mod Telling
+pub mod Choosing
