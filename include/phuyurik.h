@@ -2,13 +2,13 @@
  * memory and the 64 one-time words of the part in the socket.
  *
  * Every function that can refuse returns PHUYURIK_ACCEPTED, which is 0, or a refusal. A refusal says
- * nothing else: every buffer and every place that was lent to the call is as it was. Where more than
- * one refusal applies, the first in the order that the function names is given. Later versions add
- * refusals and stops: a switch over them has a default. No input is forbidden, but for what C asks:
- * a pointer points to as many bytes as its size says (where that is 0 it may be NULL), a place for a
- * value is there, and what a call may write overlaps nothing else that the call is given. No function
- * keeps a pointer, allocates, or has state of its own, so calls on different buffers may run at the
- * same time.
+ * nothing else: every buffer and every place that was lent to the call is as it was. The one exception
+ * are the last two places of phuyurik_assemble, for what a refusal tells. Where more than one refusal
+ * applies, the first in the order that the function names is given. Later versions add refusals and
+ * stops: a switch over them has a default. No input is forbidden, but for what C asks: a pointer points
+ * to as many bytes as its size says (where that is 0 it may be NULL), a place for a value is there, and
+ * what a call may write overlaps nothing else that the call is given. No function keeps a pointer,
+ * allocates, or has state of its own, so calls on different buffers may run at the same time.
  *
  * Buffers come in one order in every call: state, memory, row, slots. For C11 and C++11 or later.
  */
@@ -41,7 +41,7 @@ extern "C" {
  */
 
 #define PHUYURIK_VERSION_MAJOR 0
-#define PHUYURIK_VERSION_MINOR 4
+#define PHUYURIK_VERSION_MINOR 5
 #define PHUYURIK_VERSION_PATCH 0
 #define PHUYURIK_VERSION                                                                                \
     (PHUYURIK_VERSION_MAJOR * 65536u + PHUYURIK_VERSION_MINOR * 256u + PHUYURIK_VERSION_PATCH)
@@ -61,16 +61,20 @@ uint32_t phuyurik_version(void);
 
 typedef enum phuyurik_refusal {
     PHUYURIK_ACCEPTED = 0,
-    PHUYURIK_MEMORY_TOO_LONG = 1, /* memory longer than 65,536 */
-    PHUYURIK_ROW_LENGTH = 2,      /* row not 512 bytes */
-    PHUYURIK_ROW_RECORD = 3,      /* a row record breaks its rules */
-    PHUYURIK_SLOT = 4,            /* slot buffer not a multiple of 144, or no such slot */
-    PHUYURIK_STATE = 5,           /* state malformed, or, on reading, its record's bytes 137-139
-                                   * not zero */
-    PHUYURIK_ROOM = 6,            /* text room under 24 bytes */
-    PHUYURIK_NO_INSTRUCTION = 7,  /* no legal instruction in the given bits */
-    PHUYURIK_FIELD = 8,           /* a field out of range, or an odd branch or jal offset */
-    PHUYURIK_NO_SHORT_FORM = 9    /* no short form */
+    PHUYURIK_MEMORY_TOO_LONG = 1,     /* memory longer than 65,536 */
+    PHUYURIK_ROW_LENGTH = 2,          /* row not 512 bytes */
+    PHUYURIK_ROW_RECORD = 3,          /* a row record breaks its rules */
+    PHUYURIK_SLOT = 4,                /* slot buffer not a multiple of 144, or no such slot */
+    PHUYURIK_STATE = 5,               /* state malformed, or, on reading, its record's bytes
+                                       * 137-139 not zero */
+    PHUYURIK_ROOM = 6,                /* text room under 24 bytes */
+    PHUYURIK_NO_INSTRUCTION = 7,      /* no legal instruction in the given bits */
+    PHUYURIK_FIELD = 8,               /* a field out of range, or an odd branch or jal offset */
+    PHUYURIK_NO_SHORT_FORM = 9,       /* no short form */
+    PHUYURIK_UNREADABLE = 10,         /* a line that cannot be read */
+    PHUYURIK_NUMBER_NOT_ALLOWED = 11, /* a line with a number or offset not allowed */
+    PHUYURIK_NO_SHORT_LINE = 12,      /* a line with `c:` without a short form */
+    PHUYURIK_OUTPUT_ROOM = 13         /* room shorter than the whole output */
 } phuyurik_refusal;
 
 /* The words for a refusal's number; those for any other number say that it is none. */
@@ -86,6 +90,10 @@ static inline const char *phuyurik_refusal_text(unsigned number) {
         "no legal instruction in the given bits",
         "instruction with a field out of range, or an odd branch or jal offset",
         "no short form",
+        "unreadable",
+        "a number or offset not allowed",
+        "`c:` without a short form",
+        "room shorter than the whole output",
     };
     return number < sizeof texts / sizeof *texts ? texts[number] : "no refusal has this number";
 }
@@ -245,6 +253,25 @@ phuyurik_refusal phuyurik_text_of(const phuyurik_inst *inst, uint8_t *room, size
  * An image over 65,536 bytes has the one line `too long`. Never refuses. */
 phuyurik_refusal phuyurik_list(const uint8_t *image, size_t image_size, size_t from, uint8_t *room,
                                size_t room_size, size_t *length, size_t *next);
+
+/* ---- the assembler */
+
+/* Lines as the texts above are written, each ended by a newline, to their instructions, one after
+ * another; a line with c: gives the smallest halfword. The bytes are put at the front of the room, and
+ * their number into *length. Bytes of the room after them stay. A room as long as the text always
+ * suffices.
+ *
+ * Refuses, for the first line at fault, with 10, then 11, then 12: that line goes into *line, and into
+ * *byte the byte within it, both from 0. For 10 it is the first byte that can't continue a readable
+ * line (the byte after the last where the text ends early), for 11 the first of the leftmost wrong
+ * number, for 12 byte 0. Then refuses with 13. With 0 and 13 *line and *byte stay:
+ *
+ *     refusal = phuyurik_assemble(text, text_size, room, room_size, &length, &line, &byte);
+ *     if (refusal == PHUYURIK_ACCEPTED) fwrite(room, 1, length, stdout);
+ *     else if (refusal != PHUYURIK_OUTPUT_ROOM) fprintf(stderr, "line %zu, byte %zu\n", line, byte);
+ */
+phuyurik_refusal phuyurik_assemble(const uint8_t *text, size_t text_size, uint8_t *room,
+                                   size_t room_size, size_t *length, size_t *line, size_t *byte);
 
 /* ---- states
  *

@@ -1,6 +1,6 @@
 /* Through the C interface: the paper's cards 1, 3, 7, 10, 11 (also with a budget of 3) and 12, the
- * recipe in pieces through a slot, its listing, a word cleared and trimmed, the addresses of stops, and
- * four refusals. Valid C11 and C++17. */
+ * recipe in pieces through a slot, its listing, the recipe assembled from its text, a word cleared and
+ * trimmed, the addresses of stops, and six refusals. Valid C11 and C++17. */
 #include <phuyurik.h>
 
 #include <stdio.h>
@@ -127,6 +127,31 @@ static void list(const uint8_t *image, size_t image_size) {
     }
 }
 
+/* Assembles lines in a room of so many bytes, and shows the bytes, or the refusal and what stands in
+ * the three places. */
+static void assemble(const char *lines, size_t room_size) {
+    uint8_t room[64];
+    size_t length = 77, line = 77, byte = 77, i;
+    phuyurik_refusal refusal = phuyurik_assemble((const uint8_t *)lines, strlen(lines), room, room_size,
+                                                 &length, &line, &byte);
+    if (refusal == PHUYURIK_ACCEPTED) {
+        printf("assembled:");
+        for (i = 0; i < length; i++) printf(" %02x", (unsigned)room[i]);
+        printf("\n");
+    } else {
+        printf("refusal %u, length %zu, line %zu, byte %zu\n", (unsigned)refusal, length, line, byte);
+        printf("%u is: %s\n", (unsigned)refusal, phuyurik_refusal_text(refusal));
+    }
+}
+
+/* The recipe's text, also in a room that is one byte short, and a number that addi does not have. */
+static void texts(void) {
+    static const char lines[] = "c:addi x5,x0,7\nlui x6,524288\nsw x5,0(x6)\necall\n";
+    assemble(lines, sizeof recipe);
+    assemble(lines, sizeof recipe - 1);
+    assemble("ecall\naddi x5,x0,2048\n", 64);
+}
+
 /* Clears word 0 of a blank row, which is no pulse, burns it, and clears it again, which stops. A mark
  * with the value 0 is refused. */
 static int clear_and_trim(struct bench *b) {
@@ -233,6 +258,7 @@ int main(void) {
     printf("card 1: %.*s\n", (int)length, (const char *)room);
     if (codes() || card_10(&b) || card_11(&b, 100) || card_12(&b) || card_11(&b, 3) || in_pieces(&b)) return 1;
     list(recipe, sizeof recipe);
+    texts();
     if (clear_and_trim(&b) || addresses(&b)) return 1;
     address_of_a_pause(&b);
     refusals(&b);

@@ -1,6 +1,7 @@
 /* Buffers with no bytes: a NULL pointer with size 0 is allowed in every call, and gets its answer. Every
  * expected number is the paper's: no memory is memory (the first fetch is outside), no row is refused
- * with 2, no slots with 4, no room with 6. Valid C11 and C++17. */
+ * with 2, no slots with 4, no room with 6, or with 13 where a line gives something; no text gives
+ * nothing. Valid C11 and C++17. */
 #include <phuyurik.h>
 
 #include <stdio.h>
@@ -62,9 +63,29 @@ static void texts(void) {
     expect("its next", next, 0);
 }
 
+static void assembler(void) {
+    static const uint8_t text[] = {'e', 'c', 'a', 'l', 'l', '\n'};
+    uint8_t room[sizeof text];
+    size_t length = 77, line = 77, byte = 77;
+    expect("a line in no room", phuyurik_assemble(text, sizeof text, NULL, 0, &length, &line, &byte),
+           PHUYURIK_OUTPUT_ROOM);
+    expect("its length", length, 77);
+    expect("no text", phuyurik_assemble(NULL, 0, room, sizeof room, &length, &line, &byte), 0);
+    expect("its length", length, 0);
+    length = 77;
+    expect("no text in no room", phuyurik_assemble(NULL, 0, NULL, 0, &length, &line, &byte), 0);
+    expect("its length", length, 0);
+    expect("a line without its newline in no room",
+           phuyurik_assemble(text, sizeof text - 1, NULL, 0, &length, &line, &byte),
+           PHUYURIK_UNREADABLE);
+    expect("its line", line, 0);
+    expect("its byte", byte, 5);
+}
+
 int main(void) {
     runs();
     slots();
     texts();
+    assembler();
     return failed;
 }

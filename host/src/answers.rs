@@ -84,6 +84,10 @@ numbered! {
         NoInstruction = 7: "no legal instruction in the given bits",
         Field = 8: "instruction with a field out of range, or an odd branch or jal offset",
         NoShortForm = 9: "no short form",
+        Unreadable = 10: "unreadable",
+        NumberNotAllowed = 11: "a number or offset not allowed",
+        NoShortLine = 12: "`c:` without a short form",
+        OutputRoom = 13: "room shorter than the whole output",
     }
 }
 
@@ -135,6 +139,10 @@ pub enum Argument {
     Bits,
     /// The numbers of an instruction.
     Instruction,
+    /// A line of a text that is to be assembled.
+    Text,
+    /// The room for what is assembled.
+    Output,
 }
 
 impl Refusal {
@@ -153,6 +161,10 @@ impl Refusal {
             Refusal::Room => Argument::Room,
             Refusal::NoInstruction => Argument::Bits,
             Refusal::Field | Refusal::NoShortForm => Argument::Instruction,
+            Refusal::Unreadable | Refusal::NumberNotAllowed | Refusal::NoShortLine => {
+                Argument::Text
+            }
+            Refusal::OutputRoom => Argument::Output,
         }
     }
 
@@ -250,7 +262,7 @@ mod tests {
     #[test]
     fn numbers_leave_none_out() {
         let refusals = Refusal::ALL.iter().map(|refusal| refusal.number());
-        assert!(refusals.eq(1..=9));
+        assert!(refusals.eq(1..=13));
         let stops = Stop::ALL.iter().map(|stop| stop.number());
         assert!(stops.eq(0..=10));
         let operations = Operation::ALL.iter().map(|operation| operation.number());

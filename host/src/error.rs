@@ -1,5 +1,5 @@
 //! Why a call failed, and the one way in which the archive is asked.
-use crate::{Refusal, UnknownNumber, VERSION};
+use crate::{Argument, Refusal, UnknownNumber, VERSION};
 use phuyurik_sys as sys;
 use std::fmt;
 
@@ -16,6 +16,15 @@ use std::fmt;
 pub enum Error {
     /// The library refused what it was given.
     Refused(Refusal),
+    /// The library refused a line of a text, the first that is at fault.
+    Line {
+        /// What is wrong with the line.
+        refusal: Refusal,
+        /// The line, counted from 0.
+        line: usize,
+        /// The byte within that line, counted from 0.
+        byte: usize,
+    },
     /// A number that this wrapper has no name for.
     UnknownNumber(u32),
     /// The archive that was linked is not of the wrapper's version, and was asked for nothing.
@@ -28,18 +37,33 @@ pub enum Error {
 }
 
 impl Error {
-    /// The refusal, if it is one. Later versions may tell more about a refusal, in cases of their own:
-    /// programs ask here which it was.
+    /// The refusal, if it is one. A refusal that tells more than its number is a case of its own, and
+    /// later versions may have more of them: programs ask here which it was.
     ///
     /// ```
-    /// use phuyurik::{Error, Refusal};
+    /// use phuyurik::{assemble, Error, Refusal};
     /// assert_eq!(Error::Refused(Refusal::Slot).refusal(), Some(Refusal::Slot));
-    /// assert_eq!(Error::UnknownNumber(10).refusal(), None);
+    /// let line = assemble(b"ecall\naddi x5,x0,007\n").unwrap_err();
+    /// assert_eq!(line.refusal(), Some(Refusal::NumberNotAllowed));
+    /// assert_eq!(Error::UnknownNumber(99).refusal(), None);
     /// ```
     pub const fn refusal(self) -> Option<Refusal> {
         match self {
-            Error::Refused(refusal) => Some(refusal),
+            Error::Refused(refusal) | Error::Line { refusal, .. } => Some(refusal),
             _ => None,
+        }
+    }
+
+    /// The same with the place that the archive wrote, where it is the refusal that has one. Whatever
+    /// else a refusal tells is put into its error so: by what it is a refusal of, after the call.
+    pub(crate) fn in_line(self, line: usize, byte: usize) -> Error {
+        match self {
+            Error::Refused(refusal) if refusal.argument() == Argument::Text => Error::Line {
+                refusal,
+                line,
+                byte,
+            },
+            other => other,
         }
     }
 }
@@ -69,6 +93,11 @@ impl fmt::Display for Error {
     fn fmt(&self, f: &mut fmt::Formatter) -> fmt::Result {
         match self {
             Error::Refused(refusal) => refusal.fmt(f),
+            Error::Line {
+                refusal,
+                line,
+                byte,
+            } => write!(f, "line {line}, byte {byte}: {refusal}"),
             Error::UnknownNumber(number) => write!(f, "{number} is not a number known here"),
             Error::Version { wrapper, archive } => {
                 let (wrapper, archive) = (Dotted(*wrapper), Dotted(*archive));
@@ -123,9 +152,25 @@ mod tests {
         for refusal in Refusal::ALL {
             assert_eq!(checked(refusal.number()), Err(Error::Refused(*refusal)));
         }
-        for unknown in [10, 256, u32::MAX] {
+        let after_the_last = Refusal::ALL.len() as u32 + 1;
+        for unknown in [after_the_last, 256, u32::MAX] {
             assert_eq!(checked(unknown), Err(Error::UnknownNumber(unknown)));
         }
+    }
+
+    #[test]
+    fn only_a_refusal_of_a_line_has_its_place() {
+        for refusal in Refusal::ALL {
+            let error = Error::Refused(*refusal).in_line(2, 8);
+            assert_eq!(error.refusal(), Some(*refusal));
+            let told = match refusal.number() {
+                10..=12 => format!("line 2, byte 8: {refusal}"),
+                _ => refusal.to_string(),
+            };
+            assert_eq!(error.to_string(), told);
+        }
+        let unknown = Error::UnknownNumber(99);
+        assert_eq!(unknown.in_line(2, 8), unknown);
     }
 
     #[test]

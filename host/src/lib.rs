@@ -19,6 +19,7 @@
 #![warn(missing_docs)]
 
 mod answers;
+mod assembly;
 mod board;
 mod codes;
 mod error;
@@ -29,6 +30,7 @@ mod state;
 mod texts;
 
 pub use answers::{Argument, Refusal, Stop, UnknownNumber};
+pub use assembly::{assemble, assemble_into};
 pub use board::Board;
 pub use codes::{chart, decode, encode, expand, shorten, Instruction};
 pub use error::{archive_version, Error};

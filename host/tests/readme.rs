@@ -1,6 +1,7 @@
 //! The programs and sessions that README shows are the ones that are compiled and run.
+use std::fs;
 use std::path::Path;
-use std::process::Command;
+use std::process::{Command, Output};
 use testing::Folder;
 
 const README: &str = include_str!("../../README.md");
@@ -50,15 +51,22 @@ fn session(first: &str) -> Vec<Exchange> {
     session
 }
 
-/// What the shell answers to a line, in a folder, with the tool on its path.
-fn answer(folder: &Folder, line: &str) -> String {
+/// What a shell does with a line, in a folder, with the tool on its path.
+fn done(folder: &Folder, line: &str) -> Output {
     let tool = Path::new(env!("CARGO_BIN_EXE_phuyurik"));
     let path = std::env::var("PATH").expect("there is a path");
     let path = format!("{}:{path}", tool.parent().expect("in a folder").display());
     let mut shell = Command::new("sh");
     shell.args(["-c", line]).env("PATH", path);
-    let done = shell.current_dir(folder.path()).output().expect("started");
-    String::from_utf8(done.stdout).expect("text")
+    shell.current_dir(folder.path()).output().expect("started")
+}
+
+/// That the shell answers to these lines, one after another, as README shows it.
+fn is_shown(folder: &Folder, session: &[Exchange]) {
+    for Exchange { line, answer } in session {
+        let out = done(folder, line).stdout;
+        assert_eq!(&String::from_utf8(out).expect("text"), answer, "{line}");
+    }
 }
 
 #[test]
@@ -67,14 +75,7 @@ fn the_session_with_the_papers_recipe() {
     folder.write("trim.bin", include_bytes!("../../examples/trim.bin"));
     let session = session("phuyurik run trim.bin");
     assert_eq!(session.len(), 4);
-    for exchange in session {
-        assert_eq!(
-            answer(&folder, exchange.line),
-            exchange.answer,
-            "{}",
-            exchange.line
-        );
-    }
+    is_shown(&folder, &session);
 }
 
 /// The compiler need not be there: what it made stands in the repository.
@@ -85,5 +86,27 @@ fn the_session_with_a_recipe_in_c() {
     folder.write("clock_trim.elf", elf);
     let session = session("riscv64-unknown-elf-gcc ");
     assert_eq!(session.len(), 2);
-    assert_eq!(answer(&folder, session[1].line), session[1].answer);
+    is_shown(&folder, &session[1..]);
+}
+
+#[test]
+fn the_fix_at_night() {
+    let folder = Folder::new();
+    let image = include_bytes!("../../examples/voltage_trim.bin");
+    folder.write("voltage_trim.bin", image);
+    let fix = session("phuyurik list --text ");
+    assert_eq!(fix.len(), 5);
+    is_shown(&folder, &fix);
+    let fixed = fs::read(folder.file("night.bin")).expect("written");
+    // What is refused is told on standard error.
+    let [refused] = &session("echo ")[..] else {
+        panic!("one line is refused");
+    };
+    let told = done(&folder, refused.line);
+    assert_eq!(told.status.code(), Some(41));
+    assert_eq!(
+        String::from_utf8(told.stderr).expect("text"),
+        refused.answer
+    );
+    assert_eq!(fs::read(folder.file("night.bin")).expect("kept"), fixed);
 }

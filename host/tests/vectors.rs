@@ -1,6 +1,6 @@
 //! The library says of every outside vector what the vector says.
 use phuyurik::{Error, Instruction};
-use testing::{Codes, Numbers};
+use testing::{Codes, Fault, Numbers};
 
 fn instruction([operation, rd, rs1, rs2, imm]: Numbers) -> Instruction {
     Instruction {
@@ -21,6 +21,14 @@ fn number(error: Error) -> u32 {
     refusal.expect("an error is a refusal").number()
 }
 
+fn fault(error: Error) -> Fault {
+    let place = match error {
+        Error::Line { line, byte, .. } => Some((line, byte)),
+        _ => None,
+    };
+    (number(error), place)
+}
+
 const LIBRARY: Codes = Codes {
     decode: |bits| phuyurik::decode(bits).map(numbers).map_err(number),
     encode: |i| phuyurik::encode(instruction(i)).map_err(number),
@@ -28,6 +36,7 @@ const LIBRARY: Codes = Codes {
     shorten: |i| phuyurik::shorten(instruction(i)).map_err(number),
     text_of_word: |bits| phuyurik::text_of_word(bits).map_err(number),
     text_of_half: |bits| phuyurik::text_of_half(bits).map_err(number),
+    assemble: |text| phuyurik::assemble(text).map_err(fault),
 };
 
 #[test]
@@ -43,4 +52,9 @@ fn halfwords_are_those_of_the_vectors() {
 #[test]
 fn texts_are_those_of_the_vectors() {
     LIBRARY.hold_texts();
+}
+
+#[test]
+fn lines_are_read_back_to_the_vectors() {
+    LIBRARY.hold_lines();
 }

@@ -1,9 +1,6 @@
 //! The paper's bench cards through the wrapper, and refusals as errors that leave everything as it was.
 use phuyurik::*;
-
-const RECIPE: [u8; 14] = [
-    0x9D, 0x42, 0x37, 0x03, 0x00, 0x80, 0x23, 0x20, 0x53, 0x00, 0x73, 0x00, 0x00, 0x00,
-];
+use testing::example::{IMAGE as RECIPE, LINES};
 
 fn refused<T>(refusal: Refusal) -> Result<T, Error> {
     Err(Error::Refused(refusal))
@@ -277,4 +274,67 @@ fn pages_in_every_room() {
     assert_eq!(list(&RECIPE, 2, &mut [0; LINE - 1]), Ok((0, 2)));
     assert_eq!(list(&RECIPE, 0, &mut [0; LINE]), Ok((29, 2)));
     assert_eq!(list(&RECIPE, 14, &mut [0; LINE]), Ok((0, 14)));
+}
+
+/// The output stands at the front of the room, and bytes after it stay.
+#[test]
+fn the_papers_text_gives_the_papers_recipe() {
+    assert_eq!(assemble(LINES.as_bytes()).unwrap(), RECIPE);
+    let mut room = [0xEE; RECIPE.len() + 2];
+    assert_eq!(assemble_into(LINES.as_bytes(), &mut room), Ok(RECIPE.len()));
+    assert_eq!(room[..RECIPE.len()], RECIPE);
+    assert_eq!(room[RECIPE.len()..], [0xEE; 2]);
+    assert_eq!(assemble(b""), Ok(Vec::new()));
+    assert_eq!(assemble_into(b"", &mut []), Ok(0));
+    // Card 6: 0x0141 is the smaller of the two halfwords that stand for it.
+    assert_eq!(assemble(b"c:addi x2,x2,16\n").unwrap(), [0x41, 0x01]);
+    let least = assemble(b"sltiu x31,x31,-2048\n").unwrap();
+    assert_eq!(least, 0x800F_BF93_u32.to_le_bytes());
+}
+
+/// A refusal of a line has its place, also where the room is too short; and the room keeps its bytes.
+#[test]
+fn a_line_at_fault_is_an_error_with_its_place() {
+    use Refusal::{NoShortLine, NumberNotAllowed, Unreadable};
+    let faults: [(&[u8], Refusal, usize, usize); 12] = [
+        (b"\n", Unreadable, 0, 0),
+        (b"ecall", Unreadable, 0, 5),
+        (b"ecall\naddi x5, x0,7\n", Unreadable, 1, 8),
+        (b"addi x32,x0,07 \n", Unreadable, 0, 14),
+        (b"ecall\r\n", Unreadable, 0, 5),
+        (b"ecall\necall\naddi x5,x0,99999\n", NumberNotAllowed, 2, 11),
+        (b"addi x05,x32,-0\n", NumberNotAllowed, 0, 6),
+        (b"addi x5,x32,-0\n", NumberNotAllowed, 0, 9),
+        (b"addi x5,x31,-0\nnop\n", NumberNotAllowed, 0, 12),
+        (b"beq x0,x0,3\n", NumberNotAllowed, 0, 10),
+        (b"c:addi x5,x6,9999\n", NumberNotAllowed, 0, 13),
+        (b"ecall\nc:addi x5,x6,7\nnop\n", NoShortLine, 1, 0),
+    ];
+    for (text, refusal, line, byte) in faults {
+        let error = Error::Line {
+            refusal,
+            line,
+            byte,
+        };
+        assert_eq!(assemble(text), Err(error));
+        for length in [0, 3, 64] {
+            let mut room = vec![0xEE; length];
+            assert_eq!(assemble_into(text, &mut room), Err(error));
+            assert_eq!(room, vec![0xEE; length]);
+        }
+        assert_eq!(error.refusal(), Some(refusal));
+        let words = format!("line {line}, byte {byte}: {refusal}");
+        assert_eq!(error.to_string(), words);
+    }
+}
+
+/// It is of no line, and has no place.
+#[test]
+fn a_room_shorter_than_the_output_is_refused() {
+    for length in 0..RECIPE.len() {
+        let mut room = vec![0xEE; length];
+        let done = assemble_into(LINES.as_bytes(), &mut room);
+        assert_eq!(done, refused(Refusal::OutputRoom));
+        assert_eq!(room, vec![0xEE; length]);
+    }
 }

@@ -18,7 +18,8 @@ use Rattle.assembly.proofs.Steps.{gives-long, line-then, line-faulty}
 use Rattle.assembly.proofs.Steps as steps
 use Rattle.coder.specs.declared.Coded.{Coded}
 use Rattle.coder.specs.declared.Coded.the-variants.{Word, Half, Refused as Coded·Refused}
-use Rattle.coder.specs.Coding.{meant, Within}
+use Rattle.coder.specs.Coding.{codeLine, meant, Within}
+use Rattle.coder.proofs.Meaning.{line-meant}
 use Rattle.assembler.specs.declared.Assembled.{Assembled}
 use Rattle.assembler.specs.declared.Assembled.the-variants.{Length, Refused}
 use Rattle.assembler.specs.Entry.{bytesOf, entryOf, assembleEntry}
@@ -53,9 +54,9 @@ module _ (text : List ℕ) (at : ℕ) (r : Coded) (h : at < length text) where
   whole : part ≡ drop at text
   whole = take-all (length text - at) (drop at text) (omega (arith, length-drop at text))
 
-  module _ (e : meant part r ≡ meaning part) (w : Within (length part) r) where
+  module _ (coded : r ≡ codeLine part) where
     told : (meant (drop at text) r ≡ meaning (drop at text)) × Within (length (drop at text)) r
-    told = subst (λ (l : List ℕ). (meant l r ≡ meaning l) × Within (length l) r) whole (e, w)
+    told = subst (λ (l : List ℕ). (meant l r ≡ meaning l) × Within (length l) r) whole (line-meant part r coded)
 
     pub word-step : (v end : ℕ) → r ≡ Word v end → Step text at 4 v end
     word-step v end q = step text at 4 v end (omega arith) (sym (ap (meant (drop at text)) q) ∙ told .0) (subst (Within (length (drop at text))) q (told .1))

@@ -32,7 +32,8 @@ use Rattle.reader.specs.Reading.{fields, noFields, put, fault, taken}
 use Rattle.reader.specs.Line.{takenAll, firstLine, Same}
 use Rattle.reader.proofs.Telling.{told}
 use Rattle.coder.specs.declared.Coded.{Coded}
-use Rattle.coder.specs.Coding.{instOf, halved, worded, meant, Within}
+use Rattle.coder.specs.declared.Coded.the-variants.{Refused}
+use Rattle.coder.specs.Coding.{instOf, halved, worded, codedLine, codeLine, meant, Within}
 
 -- ---- the fields after the numbers of a line
 
@@ -110,7 +111,7 @@ found s c k x n e = go (lineAt s) refl (subst (λ (l : Line). Same s l (lineAt s
           within = h .4;
         }
 
-pub unread : (s : List ℕ) (p : ℕ) → Unreadable p ≡ firstLine s → faulty R.Unreadable p ≡ meaning s
+unread : (s : List ℕ) (p : ℕ) → Unreadable p ≡ firstLine s → faulty R.Unreadable p ≡ meaning s
 unread s p e = go (lineAt s) refl (subst (λ (l : Line). Same s l (lineAt s)) (sym e) (told s))
   where
     go : (b : S.Line) → lineAt s ≡ b → Same s (Unreadable p) b → faulty R.Unreadable p ≡ meaning s
@@ -132,7 +133,7 @@ module _ (s : List ℕ) (c : Bool) (k : ℕ) (x : Fields) (n : ℕ) (e : Reads c
   unfolding ws
   told-fields = subst (λ (x : Fields). Told (checked k ws) x (fields (value 1 ws) (value 2 ws) (value 3 ws) (value 4 ws) false 0)) (sym (f .holds)) (fields-told k ws 0 0 0 0 0)
 
-  pub wrong-line : x .wrong ≡ true → faulty R.NumberNotAllowed (x .place) ≡ meaning s
+  wrong-line : x .wrong ≡ true → faulty R.NumberNotAllowed (x .place) ≡ meaning s
   unfolding Told
   wrong-line w = go (checked k ws) refl told-fields
     where
@@ -164,19 +165,33 @@ module _ (s : List ℕ) (c : Bool) (k : ℕ) (x : Fields) (n : ℕ) (e : Reads c
             ap (λ (i : Inst). codeOf c i (drop n s)) same ∙ sym (reading ∙ ap (λ (t : Checked). unlessWrong t (codeOf c (instruction k ws) (drop n s))) q),
           )
 
-  module _ (w : x .wrong ≡ false) (i : Inst) (j : i ≡ instOf k x) (r : Coded) where
-    meant-line : codeOf c i (drop n s) ≡ meaning s
-    meant-line = ap (λ (i : Inst). codeOf c i (drop n s)) j ∙ right-line w .1
+  -- the code that it has is meant, and it ends within the text
+  Meant : Coded → Type 0
+  Meant r = (meant s r ≡ meaning s) × Within (length s) r
 
-    pub short-line : c ≡ true → r ≡ halved (shortened i) n → (meant s r ≡ meaning s) × Within (length s) r
-    short-line t q = (
-      ap (meant s) q ∙ half-meant s n (shortened i) ∙ sym (ap (λ (c : Bool). codeOf c i (drop n s)) t) ∙ meant-line,
-      subst (Within (length s)) (sym q) (half-within (length s) n (shortened i) (f .within)),
-    )
+  right-meant : x .wrong ≡ false → (b : Bool) → c ≡ b → Meant (cond b (halved (shortened (instOf k x)) n) (worded (encoded (instOf k x)) n))
+  unfolding Meant
+  right-meant w true t = (
+    half-meant s n (shortened (instOf k x)) ∙ sym (ap (λ (c : Bool). codeOf c (instOf k x) (drop n s)) t) ∙ right-line w .1,
+    half-within (length s) n (shortened (instOf k x)) (f .within),
+  )
+  right-meant w false t = (
+    ap (λ (b : Bool). meant s (worded (cond b (E.Bits (wordOf (instOf k x))) E.OutOfRange) n)) (right-line w .0)
+        ∙ sym (ap (λ (c : Bool). codeOf c (instOf k x) (drop n s)) t) ∙ right-line w .1,
+    word-within (length s) n (encoded (instOf k x)) (f .within),
+  )
 
-    pub long-line : c ≡ false → r ≡ worded (encoded i) n → (meant s r ≡ meaning s) × Within (length s) r
-    long-line t q =
-        let g : inRange i ≡ true = ap inRange j ∙ right-line w .0 in (
-          ap (meant s) q ∙ ap (λ (b : Bool). meant s (worded (cond b (E.Bits (wordOf i)) E.OutOfRange) n)) g ∙ sym (ap (λ (c : Bool). codeOf c i (drop n s)) t) ∙ meant-line,
-          subst (Within (length s)) (sym q) (word-within (length s) n (encoded i) (f .within)),
-        )
+  read-meant : (b : Bool) → x .wrong ≡ b
+      → Meant (cond b (Refused R.NumberNotAllowed (x .place)) (cond c (halved (shortened (instOf k x)) n) (worded (encoded (instOf k x)) n)))
+  unfolding Meant
+  read-meant true w = (wrong-line w, tt)
+  read-meant false w = right-meant w c refl
+
+-- the code of the first line
+pub line-meant : (s : List ℕ) (r : Coded) → r ≡ codeLine s → (meant s r ≡ meaning s) × Within (length s) r
+unfolding Meant
+line-meant s r e = subst (λ (r : Coded). (meant s r ≡ meaning s) × Within (length s) r) (sym e) (go (firstLine s) refl)
+  where
+    go : (l : Line) → l ≡ firstLine s → (meant s (codedLine l) ≡ meaning s) × Within (length s) (codedLine l)
+    go (Unreadable p) q = (unread s p q, tt)
+    go (Reads c k x n) q = read-meant s c k x n q (x .wrong) refl

@@ -2,6 +2,8 @@
 use mathlib.Core.List.{List}
 use Prim.Native.Nat.{ℕ, _≤_}
 use lib.ListN.{drop}
+use mathlib.Core.Bool.{cond}
+use Rattle.answers.specs.declared.Refusal.the-variants as R
 use Rattle.answers.specs.declared.Refusal.the-variants.{NumberNotAllowed, NoShortLine}
 use Rattle.word.specs.Bits.{low}
 use Rattle.isa.specs.declared.Inst.{Inst}
@@ -11,9 +13,14 @@ use Rattle.isa.specs.declared.Shortened.{Shortened}
 use Rattle.isa.specs.declared.Shortened.the-variants as H
 use Rattle.isa.specs.Operations.{parts}
 use Rattle.isa.specs.Building.{built}
+use Rattle.isa.specs.Encoding.{encoded}
+use Rattle.isa.specs.Shortening.{shortened}
 use Rattle.octets.specs.Bytes.{littleEndian}
 use Rattle.assembly.specs.Assembly.{Meaning, gives, faulty}
 use Rattle.reader.specs.declared.Fields.{Fields}
+use Rattle.reader.specs.declared.Line.{Line}
+use Rattle.reader.specs.declared.Line.the-variants.{Reads, Unreadable}
+use Rattle.reader.specs.Line.{firstLine}
 use Rattle.coder.specs.declared.Coded.{Coded}
 use Rattle.coder.specs.declared.Coded.the-variants.{Word, Half, Refused}
 
@@ -29,6 +36,16 @@ halved H.NoShortForm n = Refused NoShortLine 0
 abbrev pub worded : Encoded → ℕ → Coded
 worded (E.Bits w) n = Word w n
 worded E.OutOfRange n = Refused NumberNotAllowed 0
+
+-- the code of a line that was read, or its refusal: 10, then 11, then 12
+abbrev pub codedLine : Line → Coded
+codedLine (Unreadable p) = Refused R.Unreadable p
+codedLine (Reads short k x n) =
+    cond (x .wrong) (Refused NumberNotAllowed (x .place)) (cond short (halved (shortened (instOf k x)) n) (worded (encoded (instOf k x)) n))
+
+-- of the first line of a text
+abbrev pub codeLine : List ℕ → Coded
+codeLine text = codedLine (firstLine text)
 
 -- in the definition's terms
 abbrev pub meant : List ℕ → Coded → Meaning

@@ -11,9 +11,7 @@ use reader::Line;
 use reader::first_line;
 use shortener::shorten;
 ghost use mathlib.Core.Path.{_≡_};
-ghost use lib.ListN.{length};
-ghost use Rattle.assembly.specs.Assembly.{meaning};
-ghost use Rattle.coder.specs.Coding.{instOf, halved, worded, meant, Within};
+ghost use Rattle.coder.specs.Coding.{instOf, halved, worded, codeLine};
 ghost use Rattle.isa.specs.Encoding.{encoded};
 ghost use Rattle.isa.specs.Shortening.{shortened};
 
@@ -55,8 +53,7 @@ fn half_of(i: Inst, end: usize) -> Coded
 
 // What the first line of a text gives. Refuses with 10, 11 and 12.
 pub fn code_line(text: &[u8]) -> Coded
-    ensures { λ r. ⌜ meant (now (text .entry)) r ≡ meaning (now (text .entry)) ⌝ }
-    ensures { λ r. ⌜ Within (length (now (text .entry))) r ⌝ }
+    ensures { λ r. ⌜ r ≡ codeLine (now (text .entry)) ⌝ }
 {
     match first_line(text) {
         Line::Unreadable(byte) => Coded::Refused(Refusal::Unreadable, byte),

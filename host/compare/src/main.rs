@@ -3,9 +3,12 @@
 #![forbid(unsafe_code)]
 
 mod cuts;
+mod damage;
 mod every_word;
 mod lent;
+mod lines;
 mod options;
+mod places;
 mod program;
 mod refusals;
 mod row_store;
@@ -119,7 +122,9 @@ fn everything_once(tally: &mut Tally, options: &Options, seed: u64) -> Check {
     words::whole_chart(tally)?;
     words::all_halfwords(tally)?;
     runs::all_edges(tally)?;
-    texts::all_halfwords(tally)
+    texts::all_halfwords(tally)?;
+    lines::all_halfwords(tally)?;
+    lines::all_shapes(tally)
 }
 
 fn one_round(tally: &mut Tally, seed: u64) -> Check {
@@ -127,5 +132,6 @@ fn one_round(tally: &mut Tally, seed: u64) -> Check {
     words::round(tally, &mut random)?;
     runs::round(tally, &mut random)?;
     refusals::round(tally, &mut random)?;
-    texts::round(tally, &mut random)
+    texts::round(tally, &mut random)?;
+    lines::round(tally, &mut random)
 }

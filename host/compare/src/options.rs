@@ -10,11 +10,11 @@ usage: compare [--seed N] [--seconds N] [--rounds N]
   --rounds N   so many rounds, whatever the time: replays a difference
   --help       this text
 
-Before the rounds come every halfword, and of the 2^32 words a sixteenth that the seed
-chooses; with --seconds 0 all of them.
+Before the rounds come every halfword, lines of every operation, and of the 2^32 words a
+sixteenth that the seed chooses; with --seconds 0 all of them.
 
 Exit: 0 no difference; 1 a difference, or a stop, an address of one, a store into the row (of zero or
-not, to a blank word or a burnt one) or a refusal that was never reached; 2 usage.
+not, to a blank word or a burnt one), a refusal or a kind of its place that was never reached; 2 usage.
 ";
 
 pub struct Options {

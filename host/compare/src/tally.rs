@@ -1,9 +1,10 @@
 //! What was compared, and what was reached by it.
 
+use crate::places::Place;
 use crate::row_store::RowStore;
 use phuyurik::{Error, Refusal, Stop};
-use second::State;
-use std::fmt::Debug;
+use second::{Fault, State};
+use std::fmt::{Debug, Display};
 
 /// What differed, in words.
 pub struct Difference(pub String);
@@ -28,6 +29,8 @@ pub struct Tally {
     pub row_stores: [u64; RowStore::ALL.len()],
     /// How often each refusal was answered; the first place stays 0.
     pub refusals: [u64; Refusal::ALL.len() + 1],
+    /// How often a refused line had each kind of place.
+    pub places: [u64; Place::ALL.len()],
 }
 
 impl Tally {
@@ -90,6 +93,16 @@ impl Tally {
         }
     }
 
+    /// Counts the kinds of places that a text's refusal has.
+    pub fn note_place(&mut self, text: &[u8], answer: Result<usize, Fault>) {
+        let Err(fault) = answer else {
+            return;
+        };
+        for (place, count) in Place::ALL.iter().zip(&mut self.places) {
+            *count += u64::from(place.holds(text, fault));
+        }
+    }
+
     /// Counts the address of a state that has just stopped. An address of 0 shows nothing: it would
     /// stand there without having been set.
     pub fn note_address(&mut self, state: &State) {
@@ -119,8 +132,13 @@ impl Tally {
             .zip(self.row_stores)
     }
 
-    /// The stops, their addresses, the stores into the row and the refusals that were never reached; a
-    /// full comparison has none.
+    /// How often each kind of place of a refused line was reached.
+    fn placed(&self) -> impl Iterator<Item = (&'static str, u64)> + '_ {
+        Place::ALL.map(Place::words).into_iter().zip(self.places)
+    }
+
+    /// The stops, their addresses, the stores into the row, the refusals and their places that were
+    /// never reached; a full comparison has none.
     pub fn missing(&self) -> Vec<String> {
         let mut reached = Vec::new();
         let mut note = |what: String, count: u64| reached.push((what, count));
@@ -137,29 +155,27 @@ impl Tally {
         for (number, count) in self.refusals.iter().enumerate().skip(1) {
             note(format!("refusal {number}"), *count);
         }
+        for (place, count) in self.placed() {
+            note(format!("a refusal's place: {place}"), count);
+        }
         reached.retain(|(_, count)| *count == 0);
         reached.into_iter().map(|(what, _)| what).collect()
     }
 
     pub fn summary(&self, differences: u32, seed: u64) -> String {
         let (comparisons, steps) = (grouped(self.comparisons), grouped(self.steps));
-        let addresses = self.addressed();
-        let addresses = addresses.map(|(stop, count)| format!("{stop}: {}", grouped(count)));
-        let addresses: Vec<String> = addresses.collect();
-        let stores = self.stored();
-        let stores = stores.map(|(kind, count)| format!("{kind}: {}", grouped(count)));
-        let stores: Vec<String> = stores.collect();
         format!(
             "compare: {comparisons} comparisons ({steps} steps), {differences} differences, \
              seed {seed}, stops 0-{} reached: {}, addresses of stop {}, 4 at pc + 2: {}, \
-             stores of {}, refusals 1-{} reached: {}",
+             stores of {}, refusals 1-{} reached: {}, their places: {}",
             self.stops.len() - 1,
             counts(&self.stops),
-            addresses.join(", "),
+            named(self.addressed()),
             grouped(self.second_halfwords),
-            stores.join(", "),
+            named(self.stored()),
             self.refusals.len() - 1,
-            counts(&self.refusals[1..])
+            counts(&self.refusals[1..]),
+            named(self.placed())
         )
     }
 }
@@ -172,6 +188,12 @@ pub fn first_other(left: &[u8], right: &[u8]) -> Option<usize> {
 fn counts(numbers: &[u64]) -> String {
     let numbers: Vec<String> = numbers.iter().map(|n| grouped(*n)).collect();
     numbers.join(" ")
+}
+
+/// Each count after what it counts.
+fn named<T: Display>(counts: impl Iterator<Item = (T, u64)>) -> String {
+    let counts = counts.map(|(name, count)| format!("{name}: {}", grouped(count)));
+    counts.collect::<Vec<_>>().join(", ")
 }
 
 /// A number with a comma before each three digits.
@@ -212,6 +234,7 @@ mod tests {
             stops: [1; Stop::ALL.len()],
             row_stores: [1; RowStore::ALL.len()],
             refusals: [1; Refusal::ALL.len() + 1],
+            places: [1; Place::ALL.len()],
             ..Tally::default()
         };
         for stop in 3..=9 {
@@ -229,6 +252,11 @@ mod tests {
         for kind in RowStore::ALL {
             let name = format!("a store of {}", kind.words());
             tally.row_stores[kind as usize] = 0;
+            assert!(tally.missing().contains(&name));
+        }
+        tally.places = [0; Place::ALL.len()];
+        for place in Place::ALL {
+            let name = format!("a refusal's place: {}", place.words());
             assert!(tally.missing().contains(&name));
         }
     }

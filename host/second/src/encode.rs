@@ -64,7 +64,7 @@ fn registers_fit(shape: Shape, i: Inst) -> bool {
     fits(i.rd, has_rd) && fits(i.rs1, has_rs1) && fits(i.rs2, has_rs2)
 }
 
-fn immediate_fits(shape: Shape, imm: u32) -> bool {
+pub(crate) fn immediate_fits(shape: Shape, imm: u32) -> bool {
     let signed = imm as i32;
     match shape {
         Shape::Upper => imm < 1 << 20,

@@ -5,6 +5,7 @@
 //! numbers, as the paper's table gives them.
 #![forbid(unsafe_code)]
 
+mod assemble;
 mod decode;
 mod encode;
 mod machine;
@@ -12,6 +13,7 @@ mod short;
 mod slots;
 mod text;
 
+pub use assemble::{assemble, Fault};
 pub use decode::{chart, decode};
 pub use encode::encode;
 pub use machine::{run, step, State};
@@ -42,6 +44,10 @@ pub mod refusal {
     pub const NO_INSTRUCTION: u32 = 7;
     pub const FIELD: u32 = 8;
     pub const NO_SHORT_FORM: u32 = 9;
+    pub const UNREADABLE: u32 = 10;
+    pub const NUMBER: u32 = 11;
+    pub const NO_SHORT_LINE: u32 = 12;
+    pub const OUTPUT_ROOM: u32 = 13;
 }
 
 /// The stops' numbers.

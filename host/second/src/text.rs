@@ -8,7 +8,7 @@ const ROOM: usize = 24;
 const LINE: usize = 38;
 const LONGEST_IMAGE: usize = 65_536;
 
-const NAMES: [&str; 48] = [
+pub(crate) const NAMES: [&str; 48] = [
     "lui", "auipc", "jal", "jalr", "beq", "bne", "blt", "bge", "bltu", "bgeu", "lb", "lh", "lw",
     "lbu", "lhu", "sb", "sh", "sw", "addi", "slti", "sltiu", "xori", "ori", "andi", "slli", "srli",
     "srai", "add", "sub", "sll", "slt", "sltu", "xor", "srl", "sra", "or", "and", "fence", "ecall",

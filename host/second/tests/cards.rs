@@ -1,10 +1,7 @@
 //! The twelve bench cards of the paper, and the further ones.
 
 use second::*;
-
-const IMAGE: [u8; 14] = [
-    0x9d, 0x42, 0x37, 0x03, 0x00, 0x80, 0x23, 0x20, 0x53, 0x00, 0x73, 0x00, 0x00, 0x00,
-];
+use testing::example::IMAGE;
 
 fn word_text(bits: u32) -> Result<String, u32> {
     let mut room = [0; 24];

@@ -1,6 +1,6 @@
 //! The second emulator says of every outside vector what the vector says.
 use second::Inst;
-use testing::{Codes, Numbers};
+use testing::{Codes, Fault, Numbers};
 
 fn inst([operation, rd, rs1, rs2, imm]: Numbers) -> Inst {
     Inst {
@@ -22,6 +22,13 @@ fn text(write: impl Fn(&mut [u8]) -> Result<usize, u32>) -> Result<String, u32> 
     Ok(String::from_utf8_lossy(&room[..length]).into_owned())
 }
 
+fn assemble(text: &[u8]) -> Result<Vec<u8>, Fault> {
+    let mut room = vec![0; text.len()];
+    let answer = second::assemble(text, &mut room);
+    room.truncate(answer.map_err(|fault| (fault.number, fault.place))?);
+    Ok(room)
+}
+
 const SECOND: Codes = Codes {
     decode: |bits| second::decode(bits).map(numbers),
     encode: |i| second::encode(inst(i)),
@@ -29,6 +36,7 @@ const SECOND: Codes = Codes {
     shorten: |i| second::shorten(inst(i)),
     text_of_word: |bits| text(|room| second::text_of_word(bits, room)),
     text_of_half: |bits| text(|room| second::text_of_half(bits, room)),
+    assemble,
 };
 
 #[test]
@@ -44,4 +52,9 @@ fn halfwords_are_those_of_the_vectors() {
 #[test]
 fn texts_are_those_of_the_vectors() {
     SECOND.hold_texts();
+}
+
+#[test]
+fn lines_are_read_back_to_the_vectors() {
+    SECOND.hold_lines();
 }

@@ -13,7 +13,16 @@ pub enum Command {
     Help(String),
     Version,
     Run(Order),
-    List(PathBuf),
+    List {
+        image: PathBuf,
+        until: Option<usize>,
+    },
+    /// The listing's texts alone, which `Assemble` reads.
+    Text {
+        image: PathBuf,
+        until: Option<usize>,
+    },
+    Assemble(Assembly),
     Row(PathBuf),
     Slot(PathBuf, usize),
     Status(PathBuf),
@@ -72,6 +81,19 @@ pub struct Order {
     pub dry_run: bool,
 }
 
+/// What `phuyurik assemble` is to do.
+#[derive(Clone, Debug, PartialEq)]
+pub struct Assembly {
+    /// A file, or `STANDARD_INPUT`.
+    pub text: PathBuf,
+    pub image: PathBuf,
+    /// The image whose front the instructions replace.
+    pub onto: Option<PathBuf>,
+}
+
+/// The name that stands for no file, where a text is read.
+pub const STANDARD_INPUT: &str = "-";
+
 fn wrong<T>(why: impl ToString) -> Result<T, Error> {
     Err(Error::Usage(why.to_string()))
 }
@@ -112,6 +134,13 @@ struct Takes {
     flags: &'static [&'static str],
 }
 
+impl Takes {
+    /// Whether a word is meant as an option, and not as the text on standard input.
+    fn is_option(&self, word: &str) -> bool {
+        word.starts_with('-') && (word != STANDARD_INPUT || self.words != ["TEXT"])
+    }
+}
+
 const fn takes(
     command: &'static str,
     words: &'static [&'static str],
@@ -139,7 +168,8 @@ const RUN_FLAGS: &[&str] = &[
 
 const TAKEN: &[Takes] = &[
     takes("run", &["IMAGE"], RUN_VALUES, RUN_FLAGS),
-    takes("list", &["IMAGE"], &[], &[]),
+    takes("list", &["IMAGE"], &["--until"], &["--text"]),
+    takes("assemble", &["TEXT"], &["-o", "--onto"], &[]),
     takes("row", &["FILE"], &[], &[]),
     takes("slot", &["FILE", "K"], &[], &[]),
     takes("status", &["FOLDER"], &[], &[]),
@@ -176,7 +206,7 @@ impl Given {
                 if let Some(first) = given.values.insert(option, value) {
                     return wrong(format!("{name} comes after {first:?}: one too many"));
                 }
-            } else if name.starts_with('-') {
+            } else if takes.is_option(&name) {
                 return wrong(format!("no option {name:?}"));
             } else if let Some(place) = own.next() {
                 given.values.insert(place, word);
@@ -217,6 +247,28 @@ impl Given {
         }
     }
 
+    fn path_if_given(&self, name: &str) -> Option<PathBuf> {
+        self.values.get(name).map(PathBuf::from)
+    }
+
+    /// An address, also as a listing has it: 0x and hexadecimal digits.
+    fn address_if_given(&self, name: &str) -> Result<Option<usize>, Error> {
+        let Some(word) = self.values.get(name) else {
+            return Ok(None);
+        };
+        let text = word.to_string_lossy();
+        let address = match text.strip_prefix("0x") {
+            Some(digits) => usize::from_str_radix(digits, 16),
+            None => text.parse(),
+        };
+        match address {
+            Ok(address) => Ok(Some(address)),
+            Err(_) => wrong(format!(
+                "{name}: {word:?} is not an address, such as 112 or 0x70"
+            )),
+        }
+    }
+
     /// A length or a place, which on a small machine may be too large for any.
     fn size(&self, name: &str) -> Result<usize, Error> {
         let number = self.number(name)?;
@@ -228,7 +280,8 @@ fn command_of(given: Given) -> Result<Command, Error> {
     let yes = given.has("--yes");
     Ok(match given.command {
         "run" => Command::Run(order(&given)?),
-        "list" => Command::List(given.path("IMAGE")?),
+        "list" => list(&given)?,
+        "assemble" => Command::Assemble(assembly(&given)?),
         "row" => Command::Row(given.path("FILE")?),
         "slot" => Command::Slot(given.path("FILE")?, given.size("K")?),
         "status" => Command::Status(given.path("FOLDER").unwrap_or_else(|_| ".".into())),
@@ -254,6 +307,26 @@ fn command_of(given: Given) -> Result<Command, Error> {
         },
         _ => Command::Demo,
     })
+}
+
+fn list(given: &Given) -> Result<Command, Error> {
+    let (image, until) = (given.path("IMAGE")?, given.address_if_given("--until")?);
+    Ok(match given.has("--text") {
+        true => Command::Text { image, until },
+        false => Command::List { image, until },
+    })
+}
+
+fn assembly(given: &Given) -> Result<Assembly, Error> {
+    let assembly = Assembly {
+        text: given.path("TEXT")?,
+        image: given.path("-o")?,
+        onto: given.path_if_given("--onto"),
+    };
+    match assembly.image.as_os_str() == STANDARD_INPUT {
+        true => wrong("-o -: an image is written to a file"),
+        false => Ok(assembly),
+    }
 }
 
 fn order(given: &Given) -> Result<Order, Error> {
@@ -331,6 +404,37 @@ mod tests {
     }
 
     #[test]
+    fn listings_and_texts() {
+        let (image, onto) = (PathBuf::from("a"), Some("c".into()));
+        let assembly = |text: &str, onto| {
+            let (text, image) = (text.into(), "b".into());
+            Command::Assemble(Assembly { text, image, onto })
+        };
+        for (until, words) in [
+            (None, ""),
+            (Some(112), "--until 112"),
+            (Some(112), "--until 0x70"),
+        ] {
+            let list = Command::List {
+                image: image.clone(),
+                until,
+            };
+            assert_eq!(parsed(&format!("list a {words}")).expect(words), list);
+            let text = Command::Text {
+                image: image.clone(),
+                until,
+            };
+            assert_eq!(
+                parsed(&format!("list {words} --text a")).expect(words),
+                text
+            );
+        }
+        let parsed = |line: &str| parsed(line).expect(line);
+        assert_eq!(parsed("assemble a -o b"), assembly("a", None));
+        assert_eq!(parsed("assemble -o b - --onto c"), assembly("-", onto));
+    }
+
+    #[test]
     fn the_ways_out() {
         let (slots, row): (PathBuf, PathBuf) = ("s".into(), "r".into());
         let commands = [
@@ -399,8 +503,10 @@ mod tests {
 
     #[test]
     fn wrong_lines_are_usage_errors() {
-        let lines = "|walk|list|list a b|slot a|slot a -1|slot a x|demo now|status a b|forget s|\
-                     forget s x|forget s 0 --no|adopt s 0|adopt s|settle|settle r s|\
+        let lines = "|walk|list|list a b|list -|list a --until|list a --until -1|list a --until 0x|\
+                     list a --onto b|assemble a|assemble -o b|assemble a b -o c|assemble a -o|\
+                     assemble a -o -|assemble a -o b --onto|assemble a -o b --text|slot a|\
+                     slot a -1|slot a x|demo now|status a b|forget s|forget s x|forget s 0 --no|adopt s 0|adopt s|settle|settle r s|\
                      settle r --row r|mend|mend s 0";
         lines.split('|').for_each(is_wrong);
     }

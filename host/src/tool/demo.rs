@@ -4,7 +4,7 @@ use super::error::Error;
 use super::going::Burnt;
 use super::run::{self, Outcome};
 use super::watch::Watch;
-use super::{files, show};
+use super::{files, listing, show};
 use phuyurik::Stop;
 use std::path::{Path, PathBuf};
 
@@ -65,7 +65,7 @@ fn shown_in(folder: &Path) -> Result<String, Error> {
         dry_run: false,
     };
     std::fs::write(&order.image, RECIPE).map_err(|why| Error::file(&order.image, why))?;
-    let listing = show::list(&order.image)?;
+    let listing = listing::list(&order.image, None)?;
     fact(listing == LISTING, "the listing is not the paper's")?;
     let mut text = format!("The recipe:\n{listing}");
     let first = run::run(&order, &mut Silent)?;

@@ -1,4 +1,4 @@
-//! Why a command failed: one line, and an exit code.
+//! Why a command failed: one line, but for a line of a text, and an exit code.
 use super::sealed::Broken;
 use phuyurik::Refusal;
 use std::fmt;
@@ -53,8 +53,10 @@ pub enum Error {
     Of(Kind, PathBuf, String),
     /// The proved library refused what a file holds.
     Refused(PathBuf, Refusal),
-    /// It refused a row for one of its records: which, and which rule is broken.
-    RowRecord(PathBuf, String),
+    /// It refused something in particular of what a file holds: which, and why.
+    RefusedFor(PathBuf, Refusal, String),
+    /// It refused a line of a text, which is told with the line itself.
+    Line(Refusal, String),
     /// The demo saw something else than it promises.
     Fact(String),
 }
@@ -105,8 +107,9 @@ impl Error {
             Error::Fact(_) => 1,
             Error::Usage(_) => 2,
             Error::Of(kind, ..) => kind.code(),
-            Error::Refused(_, refusal) => refusal_code(*refusal),
-            Error::RowRecord(..) => refusal_code(Refusal::RowRecord),
+            Error::Refused(_, refusal)
+            | Error::RefusedFor(_, refusal, _)
+            | Error::Line(refusal, _) => refusal_code(*refusal),
         }
     }
 }
@@ -121,9 +124,10 @@ impl fmt::Display for Error {
             Error::Usage(why) => write!(f, "{why} (see phuyurik --help)"),
             Error::Of(_, path, why) => write!(f, "{}: {why}", path.display()),
             Error::Refused(path, refusal) => write!(f, "{}: {refusal}", path.display()),
-            Error::RowRecord(path, rule) => {
-                write!(f, "{}: {} ({rule})", path.display(), Refusal::RowRecord)
+            Error::RefusedFor(path, refusal, why) => {
+                write!(f, "{}: {refusal} ({why})", path.display())
             }
+            Error::Line(_, told) => f.write_str(told),
             Error::Fact(what) => write!(f, "demo: {what}"),
         }
     }

@@ -50,7 +50,8 @@ pub fn canonical(path: &Path) -> Result<PathBuf, Error> {
     Ok(folder.join(name))
 }
 
-fn read_opened(path: &Path, file: File, most: usize) -> Result<Vec<u8>, Error> {
+/// At most the first `most` bytes of what was opened under this name.
+pub fn read_opened(path: &Path, file: File, most: usize) -> Result<Vec<u8>, Error> {
     let mut bytes = Vec::new();
     let done = file.take(most as u64).read_to_end(&mut bytes);
     done.map_err(|why| failed(path, why))?;
@@ -77,9 +78,9 @@ pub fn read(path: &Path, most: usize) -> Result<Vec<u8>, Error> {
     read_opened(path, file, most)
 }
 
-/// Opens a file to be written in place, if it may be. That root can write to it says nothing: who
-/// took the write bits away wants it kept. The files beside it go by its name, so it has only one.
-pub fn open_in_place(path: &Path) -> Result<File, Error> {
+/// That a file may be written, and what it is. That root can write to it says nothing: who took the
+/// write bits away wants it kept.
+pub fn may_be_written(path: &Path) -> Result<fs::Metadata, Error> {
     let about = fs::symlink_metadata(path).map_err(|why| failed(path, why))?;
     if !about.is_file() {
         return Err(Error::file(path, "not a regular file"));
@@ -90,6 +91,13 @@ pub fn open_in_place(path: &Path) -> Result<File, Error> {
             "write-protected: its mode has no write bit",
         ));
     }
+    Ok(about)
+}
+
+/// Opens a file to be written in place, if it may be. The files beside it go by its name, so it has
+/// only one.
+pub fn open_in_place(path: &Path) -> Result<File, Error> {
+    let about = may_be_written(path)?;
     if about.nlink() > 1 {
         let why = format!(
             "has {} names (hard links), but what is kept of it goes by its name",

@@ -1,13 +1,10 @@
 //! The help texts. The exit codes at the end of each come from the lists of what can go wrong.
 use super::error::{refusal_code, Kind};
 use super::show::{stop_code, stop_text};
-use phuyurik::Argument::{self, Memory, Row, Slots, State};
+use phuyurik::Argument::{self, Bits, Memory, Output, Row, Slots, State, Text};
 use phuyurik::{Refusal, Stop};
 
 const COLUMNS: usize = 80;
-
-/// What can be wrong with a file for one who only looks: whatever else is, he shows.
-const TO_LOOK: [Kind; 3] = [Kind::File, Kind::Missing, Kind::Output];
 
 /// What a command does, as far as its exit codes tell.
 #[derive(Clone, Copy, PartialEq)]
@@ -16,10 +13,23 @@ enum Does {
     Runs,
     /// It looks at files, and changes none.
     Looks,
+    /// It writes a file that is of no row and no run.
+    Writes,
     /// It changes files, if the flag that says yes is there.
     Mends,
     /// It compares what it sees with the paper.
     Compares,
+}
+
+impl Does {
+    /// What can be wrong with a file. One who only looks shows whatever else is.
+    fn kinds(self) -> &'static [Kind] {
+        match self {
+            Does::Runs | Does::Mends => &Kind::ALL,
+            Does::Looks | Does::Compares => &[Kind::File, Kind::Missing, Kind::Output],
+            Does::Writes => &[Kind::File, Kind::Missing, Kind::OtherRun, Kind::Output],
+        }
+    }
 }
 
 /// A text, and what there is for the exit code to tell.
@@ -64,10 +74,9 @@ fn codes(commands: &[&Help]) -> String {
         true => line(2, "wrong usage, or without --yes: nothing was changed"),
         false => line(2, "wrong usage"),
     };
-    for kind in Kind::ALL {
-        if any(Does::Runs) || any(Does::Mends) || TO_LOOK.contains(&kind) {
-            text += &line(kind.code(), kind.words());
-        }
+    let can_be = |kind: &Kind| commands.iter().any(|one| one.does.kinds().contains(kind));
+    for kind in Kind::ALL.iter().filter(|kind| can_be(kind)) {
+        text += &line(kind.code(), kind.words());
     }
     if any(Does::Runs) {
         for stop in Stop::ALL.iter().filter(|stop| stop_code(**stop) > 0) {
@@ -113,16 +122,17 @@ A run that was cut off, by its budget, a kill or a power cut, is carried on
 from what was saved; a burnt word is never burnt again.
 
 Commands:
-  run     carries the run in a slot on, or starts the recipe
-  list    lists the instructions of a recipe
-  row     shows the words of a part's row
-  slot    shows a saved state
-  status  shows the runs and rows of a folder, and what to do next
-  forget  gives the run in a slot up
-  adopt   tells a run where its row and slots are now
-  settle  carries out a save that was cut short, or sets it aside
-  mend    makes a slots file again from the memory files
-  demo    shows all of it on the paper's recipe, in a temporary folder
+  run       carries the run in a slot on, or starts the recipe
+  list      lists the instructions of a recipe
+  assemble  writes a recipe from the lines of its listing
+  row       shows the words of a part's row
+  slot      shows a saved state
+  status    shows the runs and rows of a folder, and what to do next
+  forget    gives the run in a slot up
+  adopt     tells a run where its row and slots are now
+  settle    carries out a save that was cut short, or sets it aside
+  mend      makes a slots file again from the memory files
+  demo      shows all of it on the paper's recipe, in a temporary folder
 
   phuyurik COMMAND --help says more; phuyurik --version says which this is.
 
@@ -190,16 +200,51 @@ Example:
 const LIST: Help = Help {
     command: "list",
     about: "\
-Usage: phuyurik list IMAGE
+Usage: phuyurik list IMAGE [--text] [--until ADDRESS]
 
 Lists the instructions of IMAGE: address, bits, text. Bits that are no
 instruction have a question mark. An image over 65,536 bytes gives `too long`.
 
+  --text           the text alone, as phuyurik assemble reads it. Bits that are
+                   no instruction have none, and are refused. Of all halfwords
+                   with the same meaning the text gives the smallest: if that
+                   is not the one that is there, a note says so.
+  --until ADDRESS  only what lies before ADDRESS (112 or 0x70), where the data
+                   begins; no instruction may go on beyond it
+
 Example:
   phuyurik list trim.bin
+  phuyurik list --text --until 0x70 voltage_trim.bin > night.s
 ",
     does: Does::Looks,
-    lends: &[],
+    lends: &[Memory, Bits],
+};
+
+const ASSEMBLE: Help = Help {
+    command: "assemble",
+    about: "\
+Usage: phuyurik assemble TEXT -o IMAGE [--onto OLD]
+
+Writes the instructions of TEXT, a file or - for standard input, to IMAGE, one
+after another. TEXT has one instruction in each line, exactly as phuyurik list
+--text writes it, and a newline at the end of each. Numbers are decimal. A line
+with `c:` gives 2 bytes, any other 4. Offsets of branches and jumps are numbers
+of bytes: a line that gets another length moves what follows it.
+
+The first line at fault is told with its place, line and column from 1, and
+nothing is written. IMAGE may be neither TEXT, nor a row, nor a file of a run,
+nor the image of a run that is paused in its folder.
+
+  -o IMAGE    the file to write; one that is there is replaced whole
+  --onto OLD  the instructions replace the front of the image OLD, and what
+              follows there stays: data, for example. IMAGE may be OLD itself.
+
+Example:
+  phuyurik list --text trim.bin > night.s
+  phuyurik assemble night.s -o night.bin
+",
+    does: Does::Writes,
+    lends: &[Memory, Text, Output],
 };
 
 const ROW: Help = Help {
@@ -334,5 +379,5 @@ Example:
 };
 
 pub const COMMANDS: &[Help] = &[
-    RUN, LIST, ROW, SLOT, STATUS, FORGET, ADOPT, SETTLE, MEND, DEMO,
+    RUN, LIST, ASSEMBLE, ROW, SLOT, STATUS, FORGET, ADOPT, SETTLE, MEND, DEMO,
 ];

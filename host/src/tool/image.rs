@@ -5,8 +5,8 @@ use super::files;
 use phuyurik::LONGEST_MEMORY;
 use std::path::Path;
 
-/// An ELF file with everything for a debugger in it is well below this.
-const LONGEST_FILE: usize = 16 << 20;
+/// An ELF file with everything for a debugger in it is well below this, and so is any text.
+pub const LONGEST_FILE: usize = 16 << 20;
 
 #[derive(Debug)]
 pub struct Image {

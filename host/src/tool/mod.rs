@@ -1,5 +1,6 @@
 //! The commands. Each gives a text for standard output and an exit code, or one error.
 mod args;
+mod assemble;
 mod demo;
 mod elf;
 mod end;
@@ -14,6 +15,7 @@ mod journal;
 #[cfg(test)]
 mod journal_tests;
 mod known;
+mod listing;
 mod place;
 mod row_file;
 mod run;
@@ -58,7 +60,11 @@ pub fn main(words: Vec<OsString>) -> ExitCode {
     let code = match answer(words).and_then(print) {
         Ok(code) => code,
         Err(error) => {
-            watch::say(&error.to_string());
+            match &error {
+                // Editors find a place that stands first in its line.
+                Error::Line(_, told) => watch::put(told),
+                other => watch::say(&other.to_string()),
+            }
             error.exit_code()
         }
     };
@@ -72,7 +78,9 @@ fn answer(words: Vec<OsString>) -> Result<Answer, Error> {
             "phuyurik {}\n",
             env!("CARGO_PKG_VERSION")
         ))),
-        Command::List(image) => show::list(&image).map(Answer::good),
+        Command::List { image, until } => listing::list(&image, until).map(Answer::good),
+        Command::Text { image, until } => listing::text(&image, until).map(Answer::good),
+        Command::Assemble(order) => assemble::assemble(&order).map(Answer::good),
         Command::Row(file) => show::row(&file).map(Answer::good),
         Command::Slot(file, k) => show::slot(&file, k).map(Answer::good),
         Command::Status(folder) => status::status(&folder).map(Answer::good),

@@ -26,7 +26,7 @@ pub fn refused(path: &Path, bytes: &[u8], error: phuyurik::Error) -> Error {
     let broken = |(k, record)| Some(format!("word {k}: {}", broken_rule(record)?));
     match bytes.chunks_exact(8).enumerate().find_map(broken) {
         Some(rule) if error.refusal() == Some(Refusal::RowRecord) => {
-            Error::RowRecord(path.to_path_buf(), rule)
+            Error::RefusedFor(path.to_path_buf(), Refusal::RowRecord, rule)
         }
         _ => Error::of_library(path, error),
     }

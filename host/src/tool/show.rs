@@ -1,8 +1,7 @@
-//! What people read: the listing, a row, a slot, the facts of a run.
+//! What people read: a row, a slot, the facts of a run.
 use super::error::Error;
 use super::files;
 use super::going::Burnt;
-use super::image;
 use super::journal::{self, Moment};
 use super::known::burnt_words;
 use super::row_file;
@@ -15,11 +14,6 @@ use std::fmt::Write;
 use std::path::{Path, PathBuf};
 
 const WINDOW: u32 = 0x8000_0000;
-
-pub fn list(path: &Path) -> Result<String, Error> {
-    let image = image::load(path, None)?;
-    phuyurik::listing(&image.bytes).map_err(|error| Error::of_library(path, error))
-}
 
 pub fn both(value: u32) -> String {
     format!("{value} (0x{value:08x})")

@@ -1,6 +1,6 @@
 //! `phuyurik status`: the runs and rows of a folder, what is wrong, and what to type next. Nothing
 //! is changed, and no lock file is made.
-mod found;
+pub mod found;
 mod pending;
 mod rows;
 mod runs;

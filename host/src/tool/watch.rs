@@ -1,10 +1,14 @@
 //! Who is told of a run while it goes on. What cannot be told is no reason to end one.
 use std::io::{IsTerminal, Write};
 
+/// Lines on standard error, as they are.
+pub fn put(lines: &str) {
+    let _ = std::io::stderr().write_all(lines.as_bytes());
+}
+
 /// One line on standard error.
 pub fn say(text: &str) {
-    let line = format!("phuyurik: {text}\n");
-    let _ = std::io::stderr().write_all(line.as_bytes());
+    put(&format!("phuyurik: {text}\n"));
 }
 
 pub fn note(text: &str) {

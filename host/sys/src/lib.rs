@@ -220,6 +220,27 @@ extern "C" {
         length: *mut usize,
         next: *mut usize,
     ) -> u32;
+    /// The instructions of lines of text.
+    ///
+    /// ```
+    /// let (text, mut room, mut length, mut line, mut byte) = (b"ecall\nebroke\n", [0; 13], 0, 9, 9);
+    /// // SAFETY: what is lent has the sizes that are said, and nothing overlaps.
+    /// let mut assemble = |size| unsafe {
+    ///     let (text, room) = (text.as_ptr(), room.as_mut_ptr());
+    ///     phuyurik_sys::phuyurik_assemble(text, size, room, 13, &mut length, &mut line, &mut byte)
+    /// };
+    /// assert_eq!((assemble(6), assemble(13)), (0, 10));
+    /// assert_eq!((&room[..length], line, byte), (&[0x73, 0, 0, 0][..], 1, 3));
+    /// ```
+    pub fn phuyurik_assemble(
+        text: *const u8,
+        text_size: usize,
+        room: *mut u8,
+        room_size: usize,
+        length: *mut usize,
+        line: *mut usize,
+        byte: *mut usize,
+    ) -> u32;
     /// One step.
     ///
     /// ```

@@ -1,8 +1,12 @@
 //! What an emulator says of single instructions, held to the outside vectors.
-use crate::vectors::{smallest_halves, vectors, Numbers};
+use crate::vectors::{lines, smallest_halves, vectors, Numbers};
 
 const NO_INSTRUCTION: u32 = 7;
 const NO_SHORT_FORM: u32 = 9;
+const UNREADABLE: u32 = 10;
+
+/// A refusal of a text: its number, and the line and the byte that it tells, if it does.
+pub type Fault = (u32, Option<(usize, usize)>);
 
 /// An emulator's functions on instructions; a refusal is its number.
 pub struct Codes {
@@ -12,6 +16,7 @@ pub struct Codes {
     pub shorten: fn(Numbers) -> Result<u16, u32>,
     pub text_of_word: fn(u32) -> Result<String, u32>,
     pub text_of_half: fn(u16) -> Result<String, u32>,
+    pub assemble: fn(&[u8]) -> Result<Vec<u8>, Fault>,
 }
 
 impl Codes {
@@ -57,5 +62,16 @@ impl Codes {
                 assert_eq!((self.text_of_half)(half), Ok(text), "{half:04x}");
             }
         }
+    }
+    /// Every text of the list, read back, gives its own bits; what stands for illegal bits is refused.
+    pub fn hold_lines(&self) {
+        let lines = lines();
+        // each halfword's text with `c:` and without, and the 6,000 words but for 3,205 illegal ones
+        assert_eq!(lines.len(), 2 * 28_823 + 2_795);
+        for (line, bytes) in lines {
+            assert_eq!((self.assemble)(line.as_bytes()), Ok(bytes), "{line}");
+        }
+        let refused = Err((UNREADABLE, Some((0, 0))));
+        assert_eq!((self.assemble)(b"?\n"), refused);
     }
 }

@@ -41,6 +41,22 @@ pub fn smallest_halves(all: &[Vector]) -> HashMap<u32, u16> {
     smallest
 }
 
+/// Every text of the list as a line, with the bytes that it must be read back to: a word's own, and
+/// with `c:` in front, for a halfword's text, the smallest halfword of the list with that text.
+pub fn lines() -> Vec<(String, Vec<u8>)> {
+    let all = vectors();
+    let smallest = smallest_halves(&all);
+    let mut lines = Vec::new();
+    for v in all.iter().filter(|v| v.meant.is_some()) {
+        lines.push((format!("{}\n", v.text), v.word.to_le_bytes().to_vec()));
+        if v.half.is_some() {
+            let half = smallest[&v.word];
+            lines.push((format!("c:{}\n", v.text), half.to_le_bytes().to_vec()));
+        }
+    }
+    lines
+}
+
 fn file(name: &str) -> String {
     let path = format!("{}/../../vectors/{name}", env!("CARGO_MANIFEST_DIR"));
     std::fs::read_to_string(&path).unwrap_or_else(|problem| panic!("{path}: {problem}"))

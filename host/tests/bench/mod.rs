@@ -12,9 +12,7 @@ use std::time::{Duration, Instant, SystemTime};
 use testing::Folder;
 
 /// The paper's recipe: it burns word 0 with 7.
-pub const PAPER: [u8; 14] = [
-    0x9D, 0x42, 0x37, 0x03, 0x00, 0x80, 0x23, 0x20, 0x53, 0x00, 0x73, 0x00, 0x00, 0x00,
-];
+pub const PAPER: [u8; 14] = testing::example::IMAGE;
 /// `jal x0,0`: it never ends.
 pub const ENDLESS: [u8; 4] = [0x6F, 0x00, 0x00, 0x00];
 pub const FILES: &str = "--row part.row --slots line.slots";
@@ -36,8 +34,8 @@ impl Answer {
     }
 }
 
-pub const COMMANDS: [&str; 10] = [
-    "run", "list", "row", "slot", "status", "forget", "adopt", "settle", "mend", "demo",
+pub const COMMANDS: [&str; 11] = [
+    "run", "list", "assemble", "row", "slot", "status", "forget", "adopt", "settle", "mend", "demo",
 ];
 
 /// A file as it is: its bytes, or where a link leads, and when it was last written.

@@ -27,14 +27,14 @@ stepped c =
     let l = c .before .before .before .before .before .loop in
     let k = c .before .before .code-line in
     let g = c .end .given in
-    word-step (now (c .before .before .before .before .before .before .before .args .text)) (l .at) (k .result) (omega arith) (k .ensures .0) (k .ensures .1) (g .0 .0) (g .0 .1 .0) (g .1)
+    word-step (now (c .before .before .before .before .before .before .before .args .text)) (l .at) (k .result) (omega arith) (k .ensures) (g .0 .0) (g .0 .1 .0) (g .1)
 
 stepped-2 : (c : tie.After-end2 Inv-loop μ-loop) → Step (now (c .before .before .before .before .before .before .before .args .text)) (c .before .before .before .before .before .loop .at) 2 (c .end2 .given .0 .0) (c .end2 .given .0 .1 .0)
 stepped-2 c =
     let l = c .before .before .before .before .before .loop in
     let k = c .before .before .code-line in
     let g = c .end2 .given in
-    half-step (now (c .before .before .before .before .before .before .before .args .text)) (l .at) (k .result) (omega arith) (k .ensures .0) (k .ensures .1) (g .0 .0) (g .0 .1 .0) (g .1)
+    half-step (now (c .before .before .before .before .before .before .before .args .text)) (l .at) (k .result) (omega arith) (k .ensures) (g .0 .0) (g .0 .1 .0) (g .1)
 
 loop-again : tie.Need-loop-again Inv-loop μ-loop
 loop-again c =
@@ -62,7 +62,7 @@ returns c =
     let t = now (c .before .before .before .before .before .before .before .before .args .text) in
     let k = c .before .before .before .code-line in
     let g = c .before .refusal .given in
-    measures-fault t (l .at) (l .length) (l .line) (g .0 .0) (g .0 .1 .0) (fault-here t (l .at) (k .result) (omega arith) (k .ensures .0) (k .ensures .1) (g .0 .0) (g .0 .1 .0) (g .1)) ∙ l .inv .0
+    measures-fault t (l .at) (l .length) (l .line) (g .0 .0) (g .0 .1 .0) (fault-here t (l .at) (k .result) (omega arith) (k .ensures) (g .0 .0) (g .0 .1 .0) (g .1)) ∙ l .inv .0
 
 returns-2 : tie.Need-returns-2 Inv-loop μ-loop
 returns-2 c =

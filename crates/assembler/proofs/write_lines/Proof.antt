@@ -24,14 +24,14 @@ stepped c =
     let l = c .before .before .before .before .before .loop in
     let k = c .before .before .code-line in
     let g = c .word .given in
-    word-step (now (c .before .before .before .before .before .before .before .before .args .text)) (l .at) (k .result) (omega arith) (k .ensures .0) (k .ensures .1) (g .0 .0) (g .0 .1 .0) (g .1)
+    word-step (now (c .before .before .before .before .before .before .before .before .args .text)) (l .at) (k .result) (omega arith) (k .ensures) (g .0 .0) (g .0 .1 .0) (g .1)
 
 stepped-2 : (c : tie.After-half Inv-loop μ-loop) → Step (now (c .before .before .before .before .before .before .before .before .args .text)) (c .before .before .before .before .before .loop .at) 2 (c .half .given .0 .0) (c .half .given .0 .1 .0)
 stepped-2 c =
     let l = c .before .before .before .before .before .loop in
     let k = c .before .before .code-line in
     let g = c .half .given in
-    half-step (now (c .before .before .before .before .before .before .before .before .args .text)) (l .at) (k .result) (omega arith) (k .ensures .0) (k .ensures .1) (g .0 .0) (g .0 .1 .0) (g .1)
+    half-step (now (c .before .before .before .before .before .before .before .before .args .text)) (l .at) (k .result) (omega arith) (k .ensures) (g .0 .0) (g .0 .1 .0) (g .1)
 
 store4-requires : tie.Need-store4-requires Inv-loop μ-loop
 store4-requires c κs =
@@ -66,7 +66,7 @@ returns c =
     let k = c .before .before .code-line in
     let g = c .enum-told .given in
     absurd (left-fault (now (a .text)) (now (a .room)) (l .room) (l .at) (l .length) (l .inv .1) (g .0 .0) (g .0 .1 .0)
-    (fault-here (now (a .text)) (l .at) (k .result) (omega arith) (k .ensures .0) (k .ensures .1) (g .0 .0) (g .0 .1 .0) (g .1)))
+    (fault-here (now (a .text)) (l .at) (k .result) (omega arith) (k .ensures) (g .0 .0) (g .0 .1 .0) (g .1)))
 
 returns-2 : tie.Need-returns-2 Inv-loop μ-loop
 returns-2 c =

@@ -45,6 +45,13 @@ fn slots_name(name: &OsStr, ending: &str) -> Option<OsString> {
     journal::slot_of_memory(&slots, &memory).map(|_| slots)
 }
 
+/// Whether the tool keeps a file of this name for itself, beside a row or a slots file.
+pub fn is_own(name: &OsStr) -> bool {
+    let endings = [".seen", ".journal", ".memory", ".lock"];
+    let has = |ending: &&str| before(name, ending).is_some();
+    endings.iter().any(has) || is_set_aside(name)
+}
+
 fn is_set_aside(name: &OsStr) -> bool {
     let name = name.to_string_lossy();
     let Some((front, back)) = name.rsplit_once(".old") else {
@@ -171,7 +178,16 @@ mod tests {
             assert_eq!(slots(name), None, "{name}");
         }
         for name in ["s.0.memory.old", "r.journal.old2", "r.seen.old"] {
-            assert!(is_set_aside(name.as_ref()), "{name}");
+            assert!(
+                is_set_aside(name.as_ref()) && is_own(name.as_ref()),
+                "{name}"
+            );
+        }
+        for name in ["s.0.memory", "r.journal", "r.seen", "s.0.lock", "r.lock"] {
+            assert!(is_own(name.as_ref()), "{name}");
+        }
+        for name in ["trim.bin", "part.row", "line.slots", "seen", ".lock"] {
+            assert!(!is_own(name.as_ref()), "{name}");
         }
         for name in [
             "s.0.memory",
