@@ -50,7 +50,8 @@ fn is_refused(text: &str, code: i32, told: &str) {
     let folder = with_text(text);
     folder.write("old.bin", &PAPER);
     let before = folder.snapshot();
-    for line in ["-o new.bin", "-o old.bin", "--onto old.bin -o old.bin"] {
+    let onto = "--onto old.bin --until 14 -o old.bin";
+    for line in ["-o new.bin", "-o old.bin", onto] {
         let answer = folder.call(&format!("assemble night.s {line}"));
         assert_eq!((answer.code, &*answer.out), (code, ""), "{text:?}");
         assert_eq!(answer.err, told);
@@ -83,10 +84,13 @@ fn the_papers_recipe_is_its_text() {
     fs::set_permissions(folder.file("night.bin"), mode).expect("set");
     folder.write("night.s", b"c:ebreak\n");
     let shorter = folder.call("assemble night.s -o night.bin");
-    assert_eq!(shorter.out, "2 bytes, 1 instruction\n");
-    let note = "night.bin: 14 bytes before, 2 now; --onto keeps what follows the instructions\n";
-    assert!(shorter.err.ends_with(note), "{}", shorter.err);
+    let told = "2 bytes, 1 instruction; what night.bin was is kept as night.bin.old\n";
+    assert_eq!((shorter.code, &*shorter.out), (0, told));
+    let note = "phuyurik: note: night.bin: 14 bytes before, 2 now; --onto keeps what follows the \
+                instructions\n";
+    assert_eq!(shorter.err, note);
     assert_eq!(folder.get("night.bin"), [0x02, 0x90]);
+    assert_eq!(folder.get("night.bin.old"), PAPER);
     let about = fs::metadata(folder.file("night.bin")).expect("there");
     assert_eq!(about.permissions().mode() & 0o777, 0o640);
     assert!(!folder.has("night.bin.tmp"));
@@ -129,7 +133,7 @@ fn every_example_comes_back_from_its_text() {
         let text = folder.call(&format!("list --text {until} recipe.bin"));
         assert_eq!((text.code, &*text.err), (0, ""), "{name}");
         folder.write("night.s", text.out.as_bytes());
-        let line = format!("assemble night.s {onto} -o night.bin");
+        let line = format!("assemble night.s {onto} {until} -o night.bin");
         assert_eq!(folder.call(&line).code, 0, "{name}");
         assert_eq!(folder.get("night.bin"), image, "{name}");
         without_data += usize::from(data.is_none());
@@ -166,38 +170,106 @@ fn what_follows_the_code_stays() {
     changed[0x44] = 0x09;
     let edited = text.replace("c:addi x12,x0,3\n", "c:addi x12,x0,2\n");
     folder.write("night.s", edited.as_bytes());
-    let told = "112 bytes, 40 instructions, then 32 bytes of voltage_trim.bin\n";
+    let told = "112 bytes, 40 instructions, then 32 bytes of voltage_trim.bin";
+    let onto = "assemble night.s --onto voltage_trim.bin --until";
+    says(
+        &folder,
+        &format!("{onto} 112 -o night.bin"),
+        &format!("{told}\n"),
+    );
+    assert_eq!(folder.get("night.bin"), changed);
+    // A longer file in the place of the image is no sign that --onto was forgotten.
+    folder.write("night.bin", &[7; 150]);
+    let told_kept = |name: &str| format!("{told}; what {name} was is kept as {name}.old\n");
+    let kept = [
+        ("night.bin", vec![7; 150]),
+        ("voltage_trim.bin", recipe("voltage_trim.bin")),
+    ];
     // The old image itself may be replaced.
-    for image in ["night.bin", "voltage_trim.bin"] {
-        let line = format!("assemble night.s --onto voltage_trim.bin -o {image}");
-        says(&folder, &line, told);
+    for (image, old) in kept {
+        let line = format!("{onto} 0x70 -o {image}");
+        says(&folder, &line, &told_kept(image));
         assert_eq!(folder.get(image), changed);
+        assert_eq!(folder.get(&format!("{image}.old")), old);
     }
 }
 
+/// A longer text would overwrite what follows, a shorter one leave old instructions before it.
 #[test]
-fn the_old_image_must_have_room() {
-    let folder = with_readings();
-    folder.write("night.s", code_before_readings().as_bytes());
-    let words = [
-        "trim.bin: refusal 13: room shorter than the whole output",
-        "14 bytes, and the text gives 112",
-    ];
-    let line = "assemble night.s -o new --onto";
-    is_kept(&folder, &format!("{line} trim.bin"), 43, &words);
-    is_kept(&folder, &format!("{line} none"), 6, &["none: missing"]);
+fn the_new_instructions_are_as_long_as_the_old() {
+    let (folder, text) = (with_readings(), code_before_readings());
+    let half = "c:addi x0,x0,0\n";
+    for (text, words) in [
+        (text.clone() + half, "gives 114 bytes, 2 too many"),
+        (
+            text.clone() + &"ecall\n".repeat(8),
+            "gives 144 bytes, 32 too many",
+        ),
+        (
+            text.clone() + &"ecall\n".repeat(9),
+            "gives 148 bytes, 36 too many",
+        ),
+        (text.replacen("c:", "", 1), "gives 114 bytes, 2 too many"),
+        (
+            text.replace("c:addi x12,x0,3\n", ""),
+            "gives 110 bytes, 2 too few",
+        ),
+        (half.to_string(), "gives 2 bytes, 110 too few"),
+    ] {
+        folder.write("night.s", text.as_bytes());
+        for image in ["new.bin", "voltage_trim.bin"] {
+            let line = format!("assemble night.s --onto voltage_trim.bin --until 112 -o {image}");
+            is_kept(&folder, &line, 2, &["--until 112: night.s", words]);
+        }
+    }
+    folder.write(
+        "night.s",
+        text.replace("c:addi x12,x0,3\n", half).as_bytes(),
+    );
+    let line = "assemble night.s --onto voltage_trim.bin --until 112 -o new.bin";
+    assert_eq!(folder.call(line).code, 0);
+}
+
+/// The address is one that `list --text` takes, though the text has its length.
+#[test]
+fn instructions_replace_instructions_alone() {
+    let (folder, text) = (with_readings(), code_before_readings());
+    let onto = "assemble night.s -o new.bin --onto";
+    let words = "--until 6: an instruction begins before that address";
+    let is_cut = ("6", "c:ebreak\necall\n".to_string(), 2, words);
+    let words = "--until 148: voltage_trim.bin has only 144 bytes";
+    let is_past_it = ("148", text.clone() + &"ecall\n".repeat(9), 2, words);
+    let words = "0833 at 0x00000072; --until ADDRESS ";
+    let has_data = ("116", text + "ecall\n", 37, words);
+    for (until, text, code, words) in [is_cut, is_past_it, has_data] {
+        folder.write("night.s", text.as_bytes());
+        let list = format!("list --text --until {until} voltage_trim.bin");
+        folder.fails(&list, code, &[words]);
+        let line = format!("{onto} voltage_trim.bin --until {until}");
+        is_kept(&folder, &line, code, &[words]);
+    }
+    let words = ["--onto needs --until"];
+    is_kept(&folder, &format!("{onto} voltage_trim.bin"), 2, &words);
+    is_kept(
+        &folder,
+        &format!("{onto} none --until 112"),
+        6,
+        &["none: missing"],
+    );
 }
 
 #[test]
 fn an_elf_file_may_be_the_old_image() {
     let folder = with_text("ecall\n");
-    folder.write("old.elf", &recipe("from_c/clock_trim.elf"));
-    assert_eq!(
-        folder
-            .call("assemble night.s --onto old.elf -o new.bin")
-            .code,
-        0
-    );
+    let elf = recipe("from_c/clock_trim.elf");
+    folder.write("old.elf", &elf);
+    let line = "assemble night.s --onto old.elf --until 4 -o";
+    // It is not replaced: the image's bytes alone are no ELF file.
+    for line in [&format!("{line} old.elf"), "assemble night.s -o old.elf"] {
+        let words = ["old.elf: an ELF file", "give another name after -o"];
+        is_kept(&folder, line, 3, &words);
+    }
+    assert_eq!(folder.call(&format!("{line} new.bin")).code, 0);
     let (old, new) = (
         folder.call("list old.elf").out,
         folder.call("list new.bin").out,
@@ -213,12 +285,20 @@ fn a_line_at_fault_is_told_as_compilers_do() {
     is_refused(
         "ecall\nc:addi x5,x0,7\naddi x5,x0,99999\n",
         41,
-        "night.s:3:12: 11 a number or offset not allowed\naddi x5,x0,99999\n           ^\n",
+        "night.s:3:12: 11 a number or offset not allowed\naddi x5,x0,99999\n           ^\n\
+         note: numbers from -2048 to 2047 are allowed here\n",
     );
     is_refused(
         "ecall\nbeq x5,x32,3\n",
         41,
-        "night.s:2:9: 11 a number or offset not allowed\nbeq x5,x32,3\n        ^\n",
+        "night.s:2:9: 11 a number or offset not allowed\nbeq x5,x32,3\n        ^\n\
+         note: registers are x0 to x31\n",
+    );
+    is_refused(
+        "beq x5,x0,3\n",
+        41,
+        "night.s:1:11: 11 a number or offset not allowed\nbeq x5,x0,3\n          ^\n\
+         note: even numbers from -4096 to 4094 are allowed here\n",
     );
     is_refused(
         "c:addi x5,x6,7\nnop\n",
@@ -248,6 +328,18 @@ fn the_commonest_slips_of_editors_are_named() {
          note: the line ends with CR LF: leave every CR out, as tr -d '\\r' does\n",
     );
     is_refused(
+        "ecall\r",
+        40,
+        "night.s:1:6: 10 unreadable\necall\\r\n     ^\n\
+         note: a CR without a newline: every line ends with a newline alone\n",
+    );
+    is_refused(
+        "\u{feff}ecall\n",
+        40,
+        "night.s:1:1: 10 unreadable\n\\xef\\xbb\\xbfecall\n^\n\
+         note: a byte order mark: save the text without one, as plain ASCII\n",
+    );
+    is_refused(
         "ecall\n\n",
         40,
         "night.s:2:1: 10 unreadable\n\n^\nnote: an empty line: every line has an instruction\n",
@@ -259,6 +351,22 @@ fn the_commonest_slips_of_editors_are_named() {
          note: with address and bits, as `phuyurik list` has it: `phuyurik list --text` leaves \
          them out\n",
     );
+}
+
+/// What the examples are made from is for a compiler's assembler.
+#[test]
+fn no_source_text_is_taken_for_a_listing() {
+    let note =
+        "note: comments, directives, labels and blanks in front are not read: the lines are \
+                those of `phuyurik list --text`\n";
+    for name in recipes() {
+        let folder = Folder::new();
+        folder.write("night.s", &recipe(&format!("{name}.s")));
+        let answer = folder.call("assemble night.s -o new.bin");
+        assert_eq!((answer.code, &*answer.out), (40, ""), "{name}");
+        assert!(answer.err.ends_with(note), "{}", answer.err);
+        assert!(!folder.has("new.bin"));
+    }
 }
 
 #[test]
@@ -275,7 +383,7 @@ fn an_image_that_cannot_be_run_is_not_written() {
     let words = ["long.bin: refusal 1: memory longer than 65,536"];
     is_kept(
         &folder,
-        "assemble night.s --onto long.bin -o new",
+        "assemble night.s --onto long.bin --until 4 -o new",
         31,
         &words,
     );
@@ -301,8 +409,32 @@ fn an_empty_text_replaces_nothing() {
         "assemble night.s -o none.bin",
         "0 bytes, 0 instructions\n",
     );
-    let words = ["trim.bin: kept, for the text is empty"];
+    let words = ["night.s: empty: nothing was written"];
     is_kept(&folder, "assemble night.s -o trim.bin", 3, &words);
+    for (until, image) in [("14", "new.bin"), ("0", "new.bin"), ("0", "trim.bin")] {
+        let line = format!("assemble night.s --onto trim.bin --until {until} -o {image}");
+        is_kept(&folder, &line, 3, &words);
+    }
+}
+
+/// Where the command before a pipe fails, nothing comes through it.
+#[test]
+fn a_pipe_that_brings_nothing_is_refused() {
+    let folder = with_text("");
+    let before = folder.snapshot();
+    for more in [
+        "-o new.bin",
+        "-o trim.bin",
+        "--onto trim.bin --until 0 -o new.bin",
+    ] {
+        let answer = with_input(&folder, &format!("assemble - {more}"), "night.s");
+        let told = "phuyurik: standard input: empty: nothing was written\n";
+        assert_eq!((answer.code, &*answer.out, &*answer.err), (3, "", told));
+    }
+    folder.is_as(&before);
+    // A pipe may have a name.
+    let words = ["/dev/null: empty: nothing was written"];
+    is_kept(&folder, "assemble /dev/null -o new.bin", 3, &words);
 }
 
 #[test]
@@ -329,7 +461,8 @@ fn the_text_and_the_old_image_are_not_lost() {
     is_kept(&folder, "assemble new.tmp -o new", 2, &words);
     folder.copy("trim.bin", "new.tmp");
     let words = ["-o new: OLD must be another file than new.tmp"];
-    is_kept(&folder, "assemble night.s --onto new.tmp -o new", 2, &words);
+    let line = "assemble night.s --onto new.tmp --until 14 -o new";
+    is_kept(&folder, line, 2, &words);
 }
 
 #[test]
@@ -360,14 +493,67 @@ fn only_a_file_that_may_be_written_is_replaced() {
     is_kept(&folder, "assemble night.s", 2, &["-o is missing"]);
     is_kept(&folder, "assemble night.s -o -", 2, &["-o -"]);
     // A link is followed, and stays one.
-    symlink("trim.bin", folder.file("link")).expect("linked");
-    says(
-        &folder,
-        "assemble night.s -o link",
-        "14 bytes, 4 instructions\n",
-    );
+    folder.write("old.bin", b"old");
+    symlink("old.bin", folder.file("link")).expect("linked");
+    let told = "14 bytes, 4 instructions; what old.bin was is kept as old.bin.old\n";
+    says(&folder, "assemble night.s -o link", told);
     assert!(folder.file("link").is_symlink());
-    assert!(!folder.file("trim.bin").is_symlink());
+    assert!(!folder.file("old.bin").is_symlink());
+    assert_eq!(folder.get("old.bin"), PAPER);
+}
+
+/// Nothing but its bytes may tell what a file is good for.
+#[test]
+fn what_is_replaced_is_kept() {
+    let folder = with_text(LINES);
+    assert_eq!(folder.run("--slot 0 --budget 2").code, 10);
+    folder.copy("line.slots", "backup.slots");
+    folder.write("damaged.row", &burnt_row()[..ROW - 1]);
+    folder.write("empty.bin", b"");
+    for name in ["backup.slots", "damaged.row", "empty.bin"] {
+        let old = folder.get(name);
+        let told = format!("14 bytes, 4 instructions; what {name} was is kept as {name}.old\n");
+        let answer = folder.call(&format!("assemble night.s -o {name}"));
+        assert_eq!((answer.code, answer.out), (0, told));
+        assert_eq!(folder.get(name), PAPER);
+        assert_eq!(folder.get(&format!("{name}.old")), old);
+    }
+}
+
+#[test]
+fn what_was_kept_before_stays() {
+    let folder = with_text(LINES);
+    let versions = ["ecall\n", "ebreak\n", "c:ebreak\n", "c:ebreak\n"];
+    for text in versions {
+        folder.write("night.s", text.as_bytes());
+        assert_eq!(folder.call("assemble night.s -o fixed.bin").code, 0);
+    }
+    // The last of them is what was there.
+    assert_eq!(folder.get("fixed.bin"), [0x02, 0x90]);
+    assert_eq!(folder.get("fixed.bin.old"), [0x73, 0, 0, 0]);
+    assert_eq!(folder.get("fixed.bin.old2"), [0x73, 0, 0x10, 0]);
+    assert!(!folder.has("fixed.bin.old3"));
+    // A link is no free name, wherever it leads.
+    symlink("nowhere", folder.file("fixed.bin.old3")).expect("linked");
+    folder.write("night.s", LINES.as_bytes());
+    let told = "14 bytes, 4 instructions; what fixed.bin was is kept as fixed.bin.old4\n";
+    says(&folder, "assemble night.s -o fixed.bin", told);
+    assert!(folder.file("fixed.bin.old3").is_symlink());
+}
+
+/// Its slots are in another folder, where the assembler does not look.
+#[test]
+fn the_image_of_a_paused_run_comes_back() {
+    let folder = with_text("ecall\n");
+    fs::create_dir(folder.file("runs")).expect("made");
+    let run = "run trim.bin --row runs/part.row --slots runs/line.slots --slot 0 --budget";
+    assert_eq!(folder.call(&format!("{run} 2 --new")).code, 10);
+    let told = "4 bytes, 1 instruction; what trim.bin was is kept as trim.bin.old\n";
+    assert_eq!(folder.call("assemble night.s -o trim.bin").out, told);
+    assert_eq!(folder.call(&format!("{run} 9")).code, 7);
+    fs::rename(folder.file("trim.bin.old"), folder.file("trim.bin")).expect("renamed");
+    assert_eq!(folder.call(&format!("{run} 9")).code, 0);
+    assert_eq!(folder.get("runs/part.row"), burnt_row());
 }
 
 /// Nothing is written under this name, for the reason that these words say.

@@ -1,4 +1,4 @@
--- One line of a pass, for both passes and both widths. Assumes nothing.
+-- One line of a pass, for both passes. Assumes nothing.
 use mathlib.Core.Path.{_≡_, refl, sym, ap, _∙_, subst}
 use mathlib.Core.List.{List, [], _++_}
 use Prim.Native.Nat.{ℕ, suc, _+_, _-_, _≤_, _<_}
@@ -17,29 +17,33 @@ use Rattle.assembly.specs.Assembly.{Assembly, output, fault, before, gives, mea
 use Rattle.assembly.proofs.Steps.{gives-long, line-then, line-faulty}
 use Rattle.assembly.proofs.Steps as steps
 use Rattle.coder.specs.declared.Coded.{Coded}
-use Rattle.coder.specs.declared.Coded.the-variants.{Word, Half, Refused as Coded·Refused}
-use Rattle.coder.specs.Coding.{codeLine, meant, Within}
+use Rattle.coder.specs.declared.Coded.the-variants.{Code, Refused as Coded·Refused}
+use Rattle.coder.specs.Coding.{codeLine, meant, CodeSize, CodedWithin}
 use Rattle.coder.proofs.Meaning.{line-meant}
 use Rattle.assembler.specs.declared.Assembled.{Assembled}
 use Rattle.assembler.specs.declared.Assembled.the-variants.{Length, Refused}
 use Rattle.assembler.specs.Entry.{bytesOf, entryOf, assembleEntry}
 use Rattle.assembler.specs.Passes.{measured, Fits}
 
--- ---- a line from a place on that gives the number v in so many bytes, and ends at `end`
+-- ---- a line from a place on that gives the number v in so many bytes, 4 or 2, and ends at `end`
 
 pub record Step (text : List ℕ) (at size v end : ℕ) : Type 0 where
+  pub sized : CodeSize size
+  pub some : 0 < size
   pub long : size ≤ end
   pub within : at + end ≤ length text
   pub is : assembled (drop at text) ≡ before (littleEndian size v) (assembled (drop (at + end) text))
 
-step : (text : List ℕ) (at size v end : ℕ) → at ≤ length text → gives (littleEndian size v) (drop end (drop at text)) ≡ meaning (drop at text) → end ≤ length (drop at text)
-    → Step text at size v end
+step : (text : List ℕ) (at size v end : ℕ) → at ≤ length text → gives (littleEndian size v) (drop end (drop at text)) ≡ meaning (drop at text)
+    → CodedWithin (length (drop at text)) (Code v size end) → Step text at size v end
 step text at size v end h e w =
     let g = gives-long (drop at text) (littleEndian size v) (drop end (drop at text)) (sym e) in
     let a = length-drop at text in
     record {
-      long = omega (arith, g .1, length-le size v, a, length-drop end (drop at text));
-      within = omega (arith, a);
+      sized = w .0;
+      some = omega (arith, g .0, length-le size v);
+      long = omega (arith, w .1, g .1, length-le size v, a, length-drop end (drop at text));
+      within = omega (arith, w .1, a);
       is = line-then (drop at text) (littleEndian size v) (drop end (drop at text)) (sym e) ∙ ap (λ (l : List ℕ). before (littleEndian size v) (assembled l)) (drop-drop end at text);
     }
 
@@ -55,14 +59,11 @@ module _ (text : List ℕ) (at : ℕ) (r : Coded) (h : at < length text) where
   whole = take-all (length text - at) (drop at text) (omega (arith, length-drop at text))
 
   module _ (coded : r ≡ codeLine part) where
-    told : (meant (drop at text) r ≡ meaning (drop at text)) × Within (length (drop at text)) r
-    told = subst (λ (l : List ℕ). (meant l r ≡ meaning l) × Within (length l) r) whole (line-meant part r coded)
+    told : (meant (drop at text) r ≡ meaning (drop at text)) × CodedWithin (length (drop at text)) r
+    told = subst (λ (l : List ℕ). (meant l r ≡ meaning l) × CodedWithin (length l) r) whole (line-meant part r coded)
 
-    pub word-step : (v end : ℕ) → r ≡ Word v end → Step text at 4 v end
-    word-step v end q = step text at 4 v end (omega arith) (sym (ap (meant (drop at text)) q) ∙ told .0) (subst (Within (length (drop at text))) q (told .1))
-
-    pub half-step : (v end : ℕ) → r ≡ Half v end → Step text at 2 v end
-    half-step v end q = step text at 2 v end (omega arith) (sym (ap (meant (drop at text)) q) ∙ told .0) (subst (Within (length (drop at text))) q (told .1))
+    pub step-here : (v size end : ℕ) → r ≡ Code v size end → Step text at size v end
+    step-here v size end q = step text at size v end (omega arith) (sym (ap (meant (drop at text)) q) ∙ told .0) (subst (CodedWithin (length (drop at text))) q (told .1))
 
     pub fault-here : (f : Refusal) (p : ℕ) → r ≡ Coded·Refused f p → assembled (drop at text) ≡ fault f 0 p
     fault-here f p q = line-faulty (drop at text) f p (omega (arith, length-drop at text)) (sym (sym (ap (meant (drop at text)) q) ∙ told .0))

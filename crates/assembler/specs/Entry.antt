@@ -16,9 +16,9 @@ use Rattle.assembler.specs.declared.Assembled.{Assembled}
 use Rattle.assembler.specs.declared.Assembled.the-variants.{Length, Refused}
 
 -- 10, 11, 12: the first line at fault decides; then 13: room shorter than the whole output
-abbrev pub checked : Assembly → List ℕ → Check
-checked (output out) room = unless (leb (length out) (length room)) R.OutputRoom C.Passed
-checked (fault r line n) room = C.Refused r
+abbrev pub outputChecked : Assembly → List ℕ → Check
+outputChecked (output out) room = unless (leb (length out) (length room)) R.OutputRoom C.Passed
+outputChecked (fault r line n) room = C.Refused r
 
 -- nothing where a line is at fault
 abbrev pub bytesOf : Assembly → List ℕ
@@ -26,13 +26,13 @@ bytesOf (output out) = out
 bytesOf (fault r line n) = []
 
 -- a refusal with its line and byte; 13 is of no line, and has 0 and 0
-abbrev pub placed : Assembly → Refusal → Assembled
-placed (output out) r = Refused r 0 0
-placed (fault _ line n) r = Refused r line n
+abbrev pub placedAt : Assembly → Refusal → Assembled
+placedAt (output out) r = Refused r 0 0
+placedAt (fault _ line n) r = Refused r line n
 
 -- the answer is the length; bytes of the room after the output stay. Refused, every byte stays
 abbrev pub entryOf : Assembly → List ℕ → Outcome Assembled (List ℕ)
-entryOf a room = decided (checked a room) (outcome (Length (length (bytesOf a))) (fronted (bytesOf a) room)) (placed a) room
+entryOf a room = decided (outputChecked a room) (outcome (Length (length (bytesOf a))) (fronted (bytesOf a) room)) (placedAt a) room
 
 abbrev pub assembleEntry : List ℕ → List ℕ → Outcome Assembled (List ℕ)
 assembleEntry text room = entryOf (assembled text) room

@@ -6,10 +6,13 @@ use coder::code_line;
 use stores::store2;
 use stores::store4;
 ghost use mathlib.Core.Path.{_≡_};
+ghost use Prim.Native.Nat.{_+_, _≤_};
 ghost use lib.ListN.{length};
 ghost use Rattle.answers.specs.Outcomes.{outcome};
 ghost use Rattle.ascii.specs.Rooms.{Wrote};
 ghost use Rattle.assembly.specs.Assembly.{assembled};
+ghost use Rattle.coder.specs.Coding.{CodeSize};
+ghost use Rattle.octets.specs.Bytes.{store};
 ghost use Rattle.assembler.specs.Entry.{bytesOf, assembleEntry};
 ghost use Rattle.assembler.specs.Passes.{measured, Fits};
 
@@ -28,15 +31,10 @@ fn measure(text: &[u8]) -> Assembled
     let mut length = 0;
     while at < text.len() {
         match code_line(&text[at..]) {
-            Coded::Word(_, end) => {
+            Coded::Code(_, size, end) => {
                 at += end;
                 line += 1;
-                length += 4;
-            }
-            Coded::Half(_, end) => {
-                at += end;
-                line += 1;
-                length += 2;
+                length += size;
             }
             Coded::Refused(refusal, byte) => {
                 return Assembled::Refused(refusal, line, byte);
@@ -44,6 +42,19 @@ fn measure(text: &[u8]) -> Assembled
         }
     }
     Assembled::Length(length)
+}
+
+// The bytes of a code: the low two of a halfword's bits, or all four of a word's.
+fn store_code(room: &mut [u8], at: usize, size: usize, bits: u32)
+    requires { ⌜ CodeSize size ⌝ }
+    requires { ⌜ at + size ≤ length (now room) ⌝ }
+    ensures { λ _. ⌜ now (room .exit) ≡ store size at bits (now (room .entry)) ⌝ }
+{
+    if size == 2 {
+        store2(room, at, (bits % 65536) as u16);
+        return;
+    }
+    store4(room, at, bits);
 }
 
 // The second pass, over lines that are not at fault. Answers the place after the output.
@@ -55,15 +66,10 @@ fn write_lines(text: &[u8], room: &mut [u8]) -> usize
     let mut length = 0;
     while at < text.len() {
         match code_line(&text[at..]) {
-            Coded::Word(word, end) => {
-                store4(room, length, word);
+            Coded::Code(bits, size, end) => {
+                store_code(room, length, size, bits);
                 at += end;
-                length += 4;
-            }
-            Coded::Half(half, end) => {
-                store2(room, length, half);
-                at += end;
-                length += 2;
+                length += size;
             }
             Coded::Refused(_, _) => {
                 return length;

@@ -1,13 +1,15 @@
 -- What the assembler's program writes, and where to.
-use Prim.Native.Nat.{ℕ, _≤_}
+use Prim.Native.Nat.{ℕ}
 use mathlib.Core.Bool.{cond}
 use mathlib.Core.List.{List, _++_}
 use lib.Dec.{leb}
-use lib.ListN.{length, take}
+use lib.ListN.{length}
+use Rattle.answers.specs.Outcomes.{Outcome, outcome}
 use Rattle.answers.specs.Refusals.{numberOf}
 use Rattle.answers.specs.declared.Refusal.{Refusal}
 use Rattle.ascii.specs.Ascii.{bytes}
 use Rattle.ascii.specs.Numbers.{decimal}
+use Rattle.ascii.specs.Rooms.{fronted}
 use Rattle.assembly.specs.Assembly.{Assembly, output, fault, assembled}
 use Rattle.assembly_io.specs.declared.Said.{Said}
 use Rattle.assembly_io.specs.declared.Said.the-variants.{Output, Error}
@@ -29,11 +31,10 @@ saidOf (fault r line n) = toError (complaint r)
 abbrev pub said : List ℕ → Writes
 said text = cond (leb (length text) 65536) (saidOf (assembled text)) (toError (bytes "too long\n"))
 
--- so many bytes of the room
-abbrev pub heard : Said → List ℕ → Writes
-heard (Output n) room = toOutput (take n room)
-heard (Error n) room = toError (take n room)
+-- in a room: the bytes at its front, then what was there, and how many they are
+abbrev pub inRoom : Writes → List ℕ → Outcome Said (List ℕ)
+inRoom (toOutput out) room = outcome (Output (length out)) (fronted out room)
+inRoom (toError line) room = outcome (Error (length line)) (fronted line room)
 
-abbrev pub Within : ℕ → Said → Type 0
-Within size (Output n) = n ≤ size
-Within size (Error n) = n ≤ size
+unfoldable pub saying : List ℕ → List ℕ → Outcome Said (List ℕ)
+saying text room = inRoom (said text) room

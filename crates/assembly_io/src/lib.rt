@@ -11,8 +11,9 @@ use libc::STDOUT_FILENO;
 ghost use mathlib.Core.Path.{_≡_};
 ghost use Prim.Native.Nat.{_≤_};
 ghost use lib.ListN.{length};
+ghost use Rattle.answers.specs.Outcomes.{outcome};
 ghost use Rattle.ascii.specs.Rooms.{Wrote};
-ghost use Rattle.assembly_io.specs.Saying.{complaint, said, heard, Within};
+ghost use Rattle.assembly_io.specs.Saying.{complaint, saying};
 
 // The longest text, and more than any output of one: a line is longer than what it gives.
 const TEXT: usize = 65536;
@@ -31,11 +32,10 @@ fn complain(refusal: Refusal, room: &mut [u8]) -> usize
     put(room, newline, b'\n')
 }
 
-// What the program writes for a text.
-fn say(text: &[u8], room: &mut [u8]) -> Said
+// What the program writes for a text, at the front of a room that holds it.
+pub fn say(text: &[u8], room: &mut [u8]) -> Said
     requires { ⌜ 65536 ≤ length (now room) ⌝ }
-    ensures { λ r. ⌜ heard r (now (room .exit)) ≡ said (now (text .entry)) ⌝ }
-    ensures { λ r. ⌜ Within (length (now (room .entry))) r ⌝ }
+    ensures { λ r. ⌜ outcome r (now (room .exit)) ≡ saying (now (text .entry)) (now (room .entry)) ⌝ }
 {
     if text.len() > TEXT {
         return Said::Error(put_all(room, 0, b"too long\n"));

@@ -1,5 +1,6 @@
 -- What the coder finds is what the definition says. Assumes nothing.
 use mathlib.Core.Path.{_≡_, refl, ap, sym, _∙_, subst}
+use mathlib.Core.Logic.{inl, inr}
 use mathlib.Core.List.{List, [], _∷_}
 use mathlib.Core.Bool.{Bool, true, false, cond}
 use Prim.Native.Nat.{ℕ, _≤_}
@@ -33,7 +34,7 @@ use Rattle.reader.specs.Line.{takenAll, firstLine, Same}
 use Rattle.reader.proofs.Telling.{told}
 use Rattle.coder.specs.declared.Coded.{Coded}
 use Rattle.coder.specs.declared.Coded.the-variants.{Refused}
-use Rattle.coder.specs.Coding.{instOf, halved, worded, codedLine, codeLine, meant, Within}
+use Rattle.coder.specs.Coding.{instRead, halved, worded, codedLine, codeLine, meant, CodedWithin}
 
 -- ---- the fields after the numbers of a line
 
@@ -81,13 +82,13 @@ half-meant s n (H.Half h) = refl
 half-meant s n H.OutOfRange = refl
 half-meant s n H.NoShortForm = refl
 
-half-within : (l n : ℕ) (h : Shortened) → n ≤ l → Within l (halved h n)
-half-within l n (H.Half h) m = m
+half-within : (l n : ℕ) (h : Shortened) → n ≤ l → CodedWithin l (halved h n)
+half-within l n (H.Half h) m = (inr refl, m)
 half-within l n H.OutOfRange m = tt
 half-within l n H.NoShortForm m = tt
 
-word-within : (l n : ℕ) (w : Encoded) → n ≤ l → Within l (worded w n)
-word-within l n (E.Bits w) m = m
+word-within : (l n : ℕ) (w : Encoded) → n ≤ l → CodedWithin l (worded w n)
+word-within l n (E.Bits w) m = (inl refl, m)
 word-within l n E.OutOfRange m = tt
 
 -- ---- a line that the reader finds
@@ -147,12 +148,12 @@ module _ (s : List ℕ) (c : Bool) (k : ℕ) (x : Fields) (n : ℕ) (e : Reads c
   small v t = mod-eq-of-lt (ltb→lt v 32 t)
 
   -- the instruction is in range, and its code is meant
-  right-line : x .wrong ≡ false → (inRange (instOf k x) ≡ true) × (codeOf c (instOf k x) (drop n s) ≡ meaning s)
+  right-line : x .wrong ≡ false → (inRange (instRead k x) ≡ true) × (codeOf c (instRead k x) (drop n s) ≡ meaning s)
   unfolding Told instruction ws
   right-line w = go (checked k ws) refl told-fields
     where
       go : (t : Checked) → checked k ws ≡ t → Told t x (fields (value 1 ws) (value 2 ws) (value 3 ws) (value 4 ws) false 0)
-          → (inRange (instOf k x) ≡ true) × (codeOf c (instOf k x) (drop n s) ≡ meaning s)
+          → (inRange (instRead k x) ≡ true) × (codeOf c (instRead k x) (drop n s) ≡ meaning s)
       go (wrong p) q h =
           let z : true ≡ false = sym (h .is) ∙ w in
           absurd (subst T z tt)
@@ -160,38 +161,38 @@ module _ (s : List ℕ) (c : Bool) (k : ℕ) (x : Fields) (n : ℕ) (e : Reads c
           let l = read-line s c k ws (drop n s) (f .line) in
           let a = all-allowed k ws q in
           let t = its c k ws (l .line) (l .known) (l .spelled) q in
-          let same : instOf k x ≡ instruction k ws = ap (instOf k) h ∙ (λ i. built (parts k (small (value 1 ws) (value-small (l .spelled) k 1 refl a) i) (small (value 2 ws) (value-small (l .spelled) k 2 refl a) i) (small (value 3 ws) (value-small (l .spelled) k 3 refl a) i) (value 4 ws))) in (
+          let same : instRead k x ≡ instruction k ws = ap (instRead k) h ∙ (λ i. built (parts k (small (value 1 ws) (value-small (l .spelled) k 1 refl a) i) (small (value 2 ws) (value-small (l .spelled) k 2 refl a) i) (small (value 3 ws) (value-small (l .spelled) k 3 refl a) i) (value 4 ws))) in (
             ap inRange same ∙ is-true _ (t .ranged),
             ap (λ (i : Inst). codeOf c i (drop n s)) same ∙ sym (reading ∙ ap (λ (t : Checked). unlessWrong t (codeOf c (instruction k ws) (drop n s))) q),
           )
 
   -- the code that it has is meant, and it ends within the text
   Meant : Coded → Type 0
-  Meant r = (meant s r ≡ meaning s) × Within (length s) r
+  Meant r = (meant s r ≡ meaning s) × CodedWithin (length s) r
 
-  right-meant : x .wrong ≡ false → (b : Bool) → c ≡ b → Meant (cond b (halved (shortened (instOf k x)) n) (worded (encoded (instOf k x)) n))
+  right-meant : x .wrong ≡ false → (b : Bool) → c ≡ b → Meant (cond b (halved (shortened (instRead k x)) n) (worded (encoded (instRead k x)) n))
   unfolding Meant
   right-meant w true t = (
-    half-meant s n (shortened (instOf k x)) ∙ sym (ap (λ (c : Bool). codeOf c (instOf k x) (drop n s)) t) ∙ right-line w .1,
-    half-within (length s) n (shortened (instOf k x)) (f .within),
+    half-meant s n (shortened (instRead k x)) ∙ sym (ap (λ (c : Bool). codeOf c (instRead k x) (drop n s)) t) ∙ right-line w .1,
+    half-within (length s) n (shortened (instRead k x)) (f .within),
   )
   right-meant w false t = (
-    ap (λ (b : Bool). meant s (worded (cond b (E.Bits (wordOf (instOf k x))) E.OutOfRange) n)) (right-line w .0)
-        ∙ sym (ap (λ (c : Bool). codeOf c (instOf k x) (drop n s)) t) ∙ right-line w .1,
-    word-within (length s) n (encoded (instOf k x)) (f .within),
+    ap (λ (b : Bool). meant s (worded (cond b (E.Bits (wordOf (instRead k x))) E.OutOfRange) n)) (right-line w .0)
+        ∙ sym (ap (λ (c : Bool). codeOf c (instRead k x) (drop n s)) t) ∙ right-line w .1,
+    word-within (length s) n (encoded (instRead k x)) (f .within),
   )
 
   read-meant : (b : Bool) → x .wrong ≡ b
-      → Meant (cond b (Refused R.NumberNotAllowed (x .place)) (cond c (halved (shortened (instOf k x)) n) (worded (encoded (instOf k x)) n)))
+      → Meant (cond b (Refused R.NumberNotAllowed (x .place)) (cond c (halved (shortened (instRead k x)) n) (worded (encoded (instRead k x)) n)))
   unfolding Meant
   read-meant true w = (wrong-line w, tt)
   read-meant false w = right-meant w c refl
 
 -- the code of the first line
-pub line-meant : (s : List ℕ) (r : Coded) → r ≡ codeLine s → (meant s r ≡ meaning s) × Within (length s) r
+pub line-meant : (s : List ℕ) (r : Coded) → r ≡ codeLine s → (meant s r ≡ meaning s) × CodedWithin (length s) r
 unfolding Meant
-line-meant s r e = subst (λ (r : Coded). (meant s r ≡ meaning s) × Within (length s) r) (sym e) (go (firstLine s) refl)
+line-meant s r e = subst (λ (r : Coded). (meant s r ≡ meaning s) × CodedWithin (length s) r) (sym e) (go (firstLine s) refl)
   where
-    go : (l : Line) → l ≡ firstLine s → (meant s (codedLine l) ≡ meaning s) × Within (length s) (codedLine l)
+    go : (l : Line) → l ≡ firstLine s → (meant s (codedLine l) ≡ meaning s) × CodedWithin (length s) (codedLine l)
     go (Unreadable p) q = (unread s p q, tt)
     go (Reads c k x n) q = read-meant s c k x n q (x .wrong) refl

@@ -11,20 +11,20 @@ use reader::Line;
 use reader::first_line;
 use shortener::shorten;
 ghost use mathlib.Core.Path.{_≡_};
-ghost use Rattle.coder.specs.Coding.{instOf, halved, worded, codeLine};
+ghost use Rattle.coder.specs.Coding.{instRead, halved, worded, codeLine};
 ghost use Rattle.isa.specs.Encoding.{encoded};
 ghost use Rattle.isa.specs.Shortening.{shortened};
 
-// A word or a halfword, and the place after the line; or a refusal and its byte.
+// The bits of a code, its size in bytes, 4 or 2, and the place after the line; or a refusal and its
+// byte.
 pub enum Coded {
-    Word(u32, usize),
-    Half(u16, usize),
+    Code(u32, usize, usize),
     Refused(Refusal, usize),
 }
 
 // The numbers of a line that is not at fault fit their fields.
 fn inst_of(operation: u8, fields: Fields) -> Inst
-    ensures { λ r. ⌜ r ≡ instOf operation fields ⌝ }
+    ensures { λ r. ⌜ r ≡ instRead operation fields ⌝ }
 {
     let rd = Reg::field5(fields.rd);
     let rs1 = Reg::field5(fields.rs1);
@@ -36,7 +36,7 @@ fn word_of(i: Inst, end: usize) -> Coded
     ensures { λ r. ⌜ r ≡ worded (encoded i) end ⌝ }
 {
     match encode(i) {
-        Encoded::Bits(w) => Coded::Word(w, end),
+        Encoded::Bits(w) => Coded::Code(w, 4, end),
         Encoded::OutOfRange => Coded::Refused(Refusal::NumberNotAllowed, 0),
     }
 }
@@ -45,7 +45,7 @@ fn half_of(i: Inst, end: usize) -> Coded
     ensures { λ r. ⌜ r ≡ halved (shortened i) end ⌝ }
 {
     match shorten(i) {
-        Shortened::Half(h) => Coded::Half(h, end),
+        Shortened::Half(h) => Coded::Code(h as u32, 2, end),
         Shortened::OutOfRange => Coded::Refused(Refusal::NoShortLine, 0),
         Shortened::NoShortForm => Coded::Refused(Refusal::NoShortLine, 0),
     }

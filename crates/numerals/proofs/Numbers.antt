@@ -10,7 +10,7 @@ use lib.ListN.{length, getD, take, drop}
 use native.Mathlib.Nat.{add-zero}
 use lib.Seq.{length-take-le, take-add, drop-at, drop-drop, getD-drop}
 use borrow.Author.Tests.{lt-ltb, le-ltb, ltb-true, eqb-true, eq-eqb, ne-eqb}
-use Rattle.word.proofs.Bools.{below, and-right, holds}
+use Rattle.word.proofs.Bools.{below, and-left, and-right, holds, is-true}
 use Rattle.assembly.specs.Lines.{isDigit, minus}
 use Rattle.assembly.specs.Scanner.{run, numeral}
 use Rattle.assembly.specs.Numbers.{read, magnitude, valueOf, plain, fits}
@@ -178,6 +178,10 @@ number-held f at l = go (ltb m (numeral f l)) refl
 abbrev pub num : ℕ → Bool → Bool → ℕ → Number
 num e a g v = record { end = e; any = a; good = g; value = v }
 
+-- no leading zero, no minus on zero, and 32 bits with its sign
+abbrev pub fine : ℕ → List ℕ → ℕ → Digits → Bool
+fine from s sign d = tidy (getD s (from + sign) 0) (d .end - from) && ltb (d .value) (2 ^ 31 + sign)
+
 module _ (f from : ℕ) (s : List ℕ) (sign : ℕ) (d : Digits) (es : sign ≡ minus f (drop from s)) (ed : d ≡ digitsAt (from + sign) (drop (from + sign) s)) where
   end-is : d .end ≡ from + sign + run (drop (from + sign) s)
   end-is = ap (λ (d : Digits). d .end) ed
@@ -226,35 +230,32 @@ module _ (f from : ℕ) (s : List ℕ) (sign : ℕ) (d : Digits) (es : sign ≡ 
     unfolding r
     n = omega (arith, end-is)
 
-    by : (g : Bool) → (tidy b (d .end - from) && ltb (d .value) (2 ^ 31 + sign)) ≡ g → num (d .end) true g (cond g (cond (eqb sign 1) (2 ^ 32 - d .value) (d .value)) 0) ≡ numberAt f from (drop from s)
+    by : (g : Bool) → fine from s sign d ≡ g → num (d .end) true g (cond g (cond (eqb sign 1) (2 ^ 32 - d .value) (d .value)) 0) ≡ numberAt f from (drop from s)
     unfolding r b
     by g e = sym (ap (λ (g : Bool). num (d .end) true g (cond g (cond (eqb sign 1) (2 ^ 32 - d .value) (d .value)) 0)) e) ∙ sym bare ∙ whole
       where
-        bare : held from sign (d .end - (from + sign)) (d .value) (getD s (from + sign) 0)
-            ≡ num (d .end) true (tidy b (d .end - from) && ltb (d .value) (2 ^ 31 + sign)) (cond (tidy b (d .end - from) && ltb (d .value) (2 ^ 31 + sign)) (cond (eqb sign 1) (2 ^ 32 - d .value) (d .value)) 0)
+        bare : held from sign (d .end - (from + sign)) (d .value) (getD s (from + sign) 0) ≡ num (d .end) true (fine from s sign d) (cond (fine from s sign d) (cond (eqb sign 1) (2 ^ 32 - d .value) (d .value)) 0)
         bare = λ i. num (k i) (any i) (any i && (tidy b (n i) && ltb (d .value) (2 ^ 31 + sign))) (cond (any i && (tidy b (n i) && ltb (d .value) (2 ^ 31 + sign))) (cond (eqb sign 1) (2 ^ 32 - d .value) (d .value)) 0)
 
-    pub untidy : tidy (getD s (from + sign) 0) (d .end - from) ≡ false → num (d .end) true false 0 ≡ numberAt f from (drop from s)
-    unfolding b
-    untidy e = by false (rw e)
+    pub bad : fine from s sign d ≡ false → num (d .end) true false 0 ≡ numberAt f from (drop from s)
+    bad e = by false e
 
-    pub big : tidy (getD s (from + sign) 0) (d .end - from) ≡ true → 2 ^ 31 + sign ≤ d .value → num (d .end) true false 0 ≡ numberAt f from (drop from s)
-    unfolding b
-    big e h = by false (rw (e, le-ltb (d .value) (2 ^ 31 + sign) h))
+    module _ (e : fine from s sign d ≡ true) where
+      pub small : d .value < 2 ^ 31 + sign
+      small = ltb→lt (d .value) (2 ^ 31 + sign) (and-right (tidy (getD s (from + sign) 0) (d .end - from)) _ (holds _ e))
 
-    pub negative : tidy (getD s (from + sign) 0) (d .end - from) ≡ true → d .value < 2 ^ 31 + sign → sign ≡ 1 → num (d .end) true true (2 ^ 32 - d .value) ≡ numberAt f from (drop from s)
-    unfolding b
-    negative e h q = ap (λ (t : Bool). num (d .end) true true (cond t (2 ^ 32 - d .value) (d .value))) (sym (eq-eqb sign 1 q)) ∙ by true (rw (e, lt-ltb (d .value) (2 ^ 31 + sign) h))
+      pub negative : sign ≡ 1 → num (d .end) true true (2 ^ 32 - d .value) ≡ numberAt f from (drop from s)
+      negative q = ap (λ (t : Bool). num (d .end) true true (cond t (2 ^ 32 - d .value) (d .value))) (sym (eq-eqb sign 1 q)) ∙ by true e
 
-    pub bare : tidy (getD s (from + sign) 0) (d .end - from) ≡ true → d .value < 2 ^ 31 + sign → (sign ≡ 1 → ⊥) → num (d .end) true true (d .value) ≡ numberAt f from (drop from s)
-    unfolding b
-    bare e h q = ap (λ (t : Bool). num (d .end) true true (cond t (2 ^ 32 - d .value) (d .value))) (sym (ne-eqb sign 1 q)) ∙ by true (rw (e, lt-ltb (d .value) (2 ^ 31 + sign) h))
+      pub bare : (sign ≡ 1 → ⊥) → num (d .end) true true (d .value) ≡ numberAt f from (drop from s)
+      bare q = ap (λ (t : Bool). num (d .end) true true (cond t (2 ^ 32 - d .value) (d .value))) (sym (ne-eqb sign 1 q)) ∙ by true e
 
-    -- a number with a minus is not 0
-    pub value-pos : tidy (getD s (from + sign) 0) (d .end - from) ≡ true → sign ≡ 1 → 0 < d .value
-    value-pos e q =
-        rw value-is
-        (tally-pos (drop (from + sign) s) (omega (arith, end-is, some))
-        (λ z. let x : getD s (from + sign) 0 ≡ 48 = sym (first-of s (from + sign)) ∙ z in
-        let n : d .end - from ≡ 1 = eqb-true (d .end - from) 1 (sym (ap (λ (t : Bool). not t || eqb (d .end - from) 1) (eq-eqb (getD s (from + sign) 0) 48 x)) ∙ e) in
-        omega (arith, end-is, some)))
+      -- a number with a minus is not 0
+      pub value-pos : sign ≡ 1 → 0 < d .value
+      value-pos q =
+          rw value-is
+          (tally-pos (drop (from + sign) s) (omega (arith, end-is, some))
+          (λ z. let x : getD s (from + sign) 0 ≡ 48 = sym (first-of s (from + sign)) ∙ z in
+          let t = is-true _ (and-left (tidy (getD s (from + sign) 0) (d .end - from)) _ (holds _ e)) in
+          let n : d .end - from ≡ 1 = eqb-true (d .end - from) 1 (sym (ap (λ (t : Bool). not t || eqb (d .end - from) 1) (eq-eqb (getD s (from + sign) 0) 48 x)) ∙ t) in
+          omega (arith, end-is, some)))

@@ -96,15 +96,8 @@ pub fn read_number(text: &[u8], from: usize, field: u8) -> Number
             value: 0,
         };
     }
-    if !tidy(text[first], end - from) {
-        return Number {
-            end,
-            any: true,
-            good: false,
-            value: 0,
-        };
-    }
-    if value >= 0x8000_0000 + sign as u64 {
+    let fits = value < 0x8000_0000 + sign as u64;
+    if !(tidy(text[first], end - from) & fits) {
         return Number {
             end,
             any: true,

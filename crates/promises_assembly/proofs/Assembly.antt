@@ -4,14 +4,15 @@ use mathlib.Core.Logic.{_↔_, _⊎_, inl, inr, ⊎-elim}
 use mathlib.Core.List.{List, [], _++_, append-nil}
 use Prim.Native.Nat.{ℕ, _≤_, _<_}
 use native.Mathlib.Omega.{arith}
-use borrow.Author.Tests.{le-leb, lt-leb}
+use borrow.Author.Tests.{le-leb, lt-leb, ne-eqb}
 use lib.ListN.{length, drop, length-append, length-drop}
 use lib.Seq.{drop-at}
 use Rattle.word.proofs.Bools.{below}
 use Rattle.answers.specs.Answer.{given, refused}
-use Rattle.answers.specs.Outcomes.{outcome, decided}
+use Rattle.answers.specs.Outcomes.{Outcome, outcome, decided}
 use Rattle.answers.specs.Order.{refusal, noRefusal}
 use Rattle.answers.specs.Refusals.{numberOf}
+use Rattle.answers.specs.Replies.{calledTelling}
 use Rattle.answers.specs.declared.Refusal.{Refusal}
 use Rattle.answers.specs.declared.Refusal.the-variants as R
 use Rattle.answers.proofs.Order.{apart, same-value, RefusedBy, Says}
@@ -19,9 +20,12 @@ use Rattle.answers.proofs.Entries.{exactly, keeps-lent}
 use Rattle.ascii.specs.Rooms.{fronted}
 use Rattle.octets.proofs.Bytes.{length-le}
 use Rattle.assembly.specs.Assembly.{Assembly, output, fault, assembled}
+use Rattle.assembler.specs.declared.Assembled.{Assembled}
 use Rattle.assembler.specs.declared.Assembled.the-variants.{Length, Refused}
-use Rattle.assembler.specs.Entry.{checked, placed, entryOf, assembleEntry, ofAssembled}
-use Rattle.promises_assembly.specs.Assembly.{LineGives, word, half, LinesGive, none, line, Fills, WordBack, HalfBack, LinesBack, OnlyLines, EmptyText, unreadable, wrong-number, no-half, FirstFault, here, later, ShortRoom, RefusedAt, RefusesAt, OneFault, Faulty, AssembleRefuses, AssembleKeeps, RestStays}
+use Rattle.assembler.specs.Entry.{outputChecked, placedAt, entryOf, assembleEntry, ofAssembled}
+use Rattle.assembler.proofs.Lines.{output-short}
+use Rattle.c_assembly.specs.Assembly.{faultOf}
+use Rattle.promises_assembly.specs.Assembly.{LineGives, word, half, LinesGive, none, line, Fills, Assembles, WordBack, HalfBack, LinesBack, OnlyLines, EmptyText, unreadable, wrong-number, no-half, FirstFault, here, later, NoFault, RoomSuffices, ShortRoom, RefusedAt, RefusesAt, OneFault, Faulty, AssembleRefuses, AssembleKeeps, RestStays, PlacesTold}
 use Rattle.promises_assembly.proofs.Lines.{lines-give, fault-refuses, Told, told}
 
 -- ---- the entry, by what the lines come to
@@ -42,7 +46,7 @@ module _ (room : List ℕ) where
   faulting r k p = refl
 
 -- a refusal is told as its number, wherever it is placed
-placed-reads : (a : Assembly) (r : Refusal) → ofAssembled (placed a r) ≡ refused r
+placed-reads : (a : Assembly) (r : Refusal) → ofAssembled (placedAt a r) ≡ refused r
 placed-reads (output out) r = refl
 placed-reads (fault s k p) r = refl
 
@@ -66,16 +70,16 @@ pub empty-text : EmptyText
 empty-text room = lines-back [] [] room none (omega arith)
 
 -- accepted: there are such lines, and their output fits
-record Accepted (text room : List ℕ) (n : ℕ) : Type 0 where
+record Fitting (text room : List ℕ) (n : ℕ) : Type 0 where
   out : List ℕ
   so : LinesGive text out
   long : length out ≡ n
   fit : n ≤ length room
 
-accepted : (text room : List ℕ) (n : ℕ) → ofAssembled (assembleEntry text room .answer) ≡ given n → Accepted text room n
+accepted : (text room : List ℕ) (n : ℕ) → ofAssembled (assembleEntry text room .answer) ≡ given n → Fitting text room n
 accepted text room n e = go (assembled text) (told text) e
   where
-    go : (a : Assembly) → Told text a → ofAssembled (entryOf a room .answer) ≡ given n → Accepted text room n
+    go : (a : Assembly) → Told text a → ofAssembled (entryOf a room .answer) ≡ given n → Fitting text room n
     go (fault r k p) t e = absurd (apart (sym (rw (faulting room r k p) at e)))
     go (output out) t e = ⊎-elim (λ (h : length room < length out). absurd (apart (sym (rw (lacking room out h) at e))))
         (λ (h : length out ≤ length room). let z : length out ≡ n = same-value (rw (fitting room out h) at e) in
@@ -85,7 +89,14 @@ accepted text room n e = go (assembled text) (told text) e
 pub only-lines : OnlyLines
 only-lines text room n e =
     let a = accepted text room n e in
-    (a .out, a .so, a .long)
+    (a .out, a .so, lines-back text (a .out) room (a .so) (omega (arith, a .long, a .fit)))
+
+pub room-suffices : RoomSuffices
+room-suffices text room f h = go (assembled text) (told text) refl
+  where
+    go : (a : Assembly) → Told text a → assembled text ≡ a → Assembles text room
+    go (fault r k p) t q = absurd (f (numberOf r) k p t)
+    go (output out) t q = (out, t, lines-back text out room t (omega (arith, output-short text out q)))
 
 pub rest-stays : RestStays
 rest-stays text room n e =
@@ -175,7 +186,7 @@ abbrev rows : List ℕ → List ℕ → ℕ → Type 0
 rows text room = refusal 10 (Faulty text 10) (from11 text room)
 
 pub assemble-refuses : AssembleRefuses
-assemble-refuses text room = exactly ofAssembled (placed (assembled text)) (placed-reads (assembled text)) _ _ room refl (says (assembled text) (told text))
+assemble-refuses text room = exactly ofAssembled (placedAt (assembled text)) (placed-reads (assembled text)) _ _ room refl (says (assembled text) (told text))
   where
     -- no fault but the one that there is
     other : (m n k p : ℕ) → FirstFault text m k p → (m ≡ n → ⊥) → Faulty text n → ⊥
@@ -191,14 +202,38 @@ assemble-refuses text room = exactly ofAssembled (placed (assembled text)) (plac
         (row-fails (from11 text room) 10 n (other m 10 k p f (λ q. omega arith))
         (row-fails (from12 text room) 11 n (other m 11 k p f (λ q. omega arith)) (row-holds (from13 text room) 12 n (k, p, subst (λ (m : ℕ). FirstFault text m k p) e f))))
 
-    says : (a : Assembly) → Told text a → Says (checked a room) (rows text room)
+    says : (a : Assembly) → Told text a → Says (outputChecked a room) (rows text room)
     says (fault r k p) t n = faulty (numberOf r) k p t (number-of-fault t) n
     says (output out) t n =
         row-fails (from11 text room) 10 n (λ g. no-fault t (g .2)) (row-fails (from12 text room) 11 n (λ g. no-fault t (g .2)) (row-fails (from13 text room) 12 n (λ g. no-fault t (g .2)) (room-row (below (length room) (length out)))))
       where
-        room-row : (length room < length out) ⊎ (length out ≤ length room) → RefusedBy (checked (output out) room) n ↔ refusal 13 (ShortRoom text room) noRefusal n
+        room-row : (length room < length out) ⊎ (length out ≤ length room) → RefusedBy (outputChecked (output out) room) n ↔ refusal 13 (ShortRoom text room) noRefusal n
         room-row (inl l) = rw (lt-leb (length out) (length room) l) (row-holds noRefusal 13 n (out, t, l))
         room-row (inr l) = rw (le-leb (length out) (length room) l) (row-fails noRefusal 13 n (λ s. let z = ap length (one-output t (s .1)) in omega (arith, s .2)) ((λ x. x), λ x. x))
 
 pub assemble-keeps : AssembleKeeps
-assemble-keeps text room = keeps-lent ofAssembled (placed (assembled text)) (placed-reads (assembled text)) _ _ room refl
+assemble-keeps text room = keeps-lent ofAssembled (placedAt (assembled text)) (placed-reads (assembled text)) _ _ room refl
+
+-- ---- the C call
+
+not-13 : {n : ℕ} → (n ≡ 10) ⊎ ((n ≡ 11) ⊎ (n ≡ 12)) → n ≡ 13 → ⊥
+not-13 (inl e) d = omega arith
+not-13 (inr (inl e)) d = omega arith
+not-13 (inr (inr e)) d = omega arith
+
+pub places-told : PlacesTold
+places-told text room len j q = go (assembled text) (told text)
+  where
+    call : Outcome Assembled (List ℕ) → Outcome ℕ ((ℕ × (ℕ × ℕ)) × List ℕ)
+    call o = calledTelling ofAssembled faultOf len (j, q) o
+
+    of-line : (r : Refusal) (k p : ℕ) → (numberOf r ≡ 13 → ⊥) → call (outcome (Refused r k p) room) ≡ outcome (numberOf r) ((len, (k, p)), room)
+    of-line r k p h = rw (ne-eqb (numberOf r) 13 h)
+
+    go : (a : Assembly) → Told text a → let c = call (entryOf a room) in
+        ((n k p : ℕ) × FirstFault text n k p × (c ≡ outcome n ((len, (k, p)), room))) ⊎ (NoFault text × ((c .answer ≡ 0) ⊎ (c .answer ≡ 13)) × (c .lent .0 .1 ≡ (j, q)))
+    go (fault r k p) t = inl (numberOf r, k, p, t, ap call (faulting room r k p) ∙ of-line r k p (not-13 (number-of-fault t)))
+    go (output out) t = ⊎-elim
+        (λ (h : length room < length out). rw (lacking room out h) (inr (λ n k p f. no-fault t f, inr refl, refl)))
+        (λ (h : length out ≤ length room). rw (fitting room out h) (inr (λ n k p f. no-fault t f, inl refl, refl)))
+        (below (length room) (length out))

@@ -3,9 +3,8 @@ use mathlib.Core.Path.{_≡_, refl, ap, sym, _∙_, subst}
 use mathlib.Core.Logic.{_⊎_, inl, inr}
 use mathlib.Core.List.{List, [], _∷_, _++_, append-assoc}
 use mathlib.Core.Bool.{Bool, true, false}
-use Prim.Native.Nat.{ℕ, zero, suc, _≤_}
+use Prim.Native.Nat.{ℕ}
 use native.Mathlib.Omega.{arith}
-use lib.ListN.{length}
 use Rattle.answers.specs.Answer.{given}
 use Rattle.answers.specs.Refusals.{numberOf}
 use Rattle.answers.specs.declared.Refusal.{Refusal}
@@ -22,12 +21,13 @@ use Rattle.octets.specs.Bytes.{littleEndian}
 use Rattle.roundtrip.proofs.Words.{word-lt, decode-encode}
 use Rattle.shortest.proofs.Shortest.{shortened-is}
 use Rattle.text.specs.Text.{textOf, shortTextOf}
-use Rattle.assembly.specs.Assembly.{Meaning, gives, faulty, halfOf, codeOf, meaning, Assembly, output, fault, before, assembled}
+use Rattle.assembly.specs.Assembly.{gives, faulty, halfOf, codeOf, meaning, Assembly, output, fault, before, assembled}
 use Rattle.assembly.proofs.Forms.{textFor}
 use Rattle.assembly.proofs.Back.{word-back, half-back}
 use Rattle.assembly.proofs.Only.{accepted}
 use Rattle.assembly.proofs.Refusals.{refused-10, refused-11, refused-12, which}
-use Rattle.assembly.proofs.Steps.{gives-long, nothing, line-then, line-faulty}
+use Rattle.assembly.proofs.Steps.{nothing, line-then, line-faulty}
+use Rattle.assembler.proofs.Lines.{by-lines}
 use Rattle.promises_codes.proofs.Readings.{legal-is}
 use Rattle.promises_assembly.specs.Assembly.{Smallest, LineGives, word, half, LinesGive, none, line, AtFault, unreadable, wrong-number, no-half, FirstFault, here, later}
 
@@ -127,20 +127,11 @@ told-after : {l bs : List ℕ} → LineGives l bs → (text : List ℕ) (a : Ass
 told-after g text (output out) t = line g t
 told-after g text (fault r k p) t = later g t
 
-told-by : (n : ℕ) (text : List ℕ) → length text ≤ n → Told text (assembled text)
-told-by zero [] h = subst (Told []) (sym nothing) none
-told-by zero (b ∷ text) h = absurd (omega arith)
-told-by (suc n) [] h = subst (Told []) (sym nothing) none
-told-by (suc n) (b ∷ text) h = go (told-by n) (meaning (b ∷ text)) refl
-  where
-    go : ((rest : List ℕ) → length rest ≤ n → Told rest (assembled rest)) → (m : Meaning) → meaning (b ∷ text) ≡ m → Told (b ∷ text) (assembled (b ∷ text))
-    go ih (faulty r p) e = subst (Told (b ∷ text)) (sym (line-faulty (b ∷ text) r p (omega arith) e)) (here (omega arith) (at-fault (b ∷ text) r p e))
-    go ih (gives bs rest) e =
-        let l = gives-long (b ∷ text) bs rest e in
-        let s = split (b ∷ text) bs rest e in
-        subst (Told (b ∷ text)) (sym (line-then (b ∷ text) bs rest e))
-        (subst (λ (t : List ℕ). Told t (before bs (assembled rest))) (sym (s .is)) (told-after (s .gives-so) rest (assembled rest) (ih rest (omega (arith, l .0, l .1)))))
+told-line : (text bs rest : List ℕ) (a : Assembly) → meaning text ≡ gives bs rest → Told rest a → Told text (before bs a)
+told-line text bs rest a e t =
+    let s = split text bs rest e in
+    subst (λ (t : List ℕ). Told t (before bs a)) (sym (s .is)) (told-after (s .gives-so) rest a t)
 
 -- one of the two it is
 pub told : (text : List ℕ) → Told text (assembled text)
-told text = told-by (length text) text (omega arith)
+told = by-lines Told none (λ text r p h e. here h (at-fault text r p e)) told-line

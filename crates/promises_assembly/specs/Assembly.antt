@@ -5,7 +5,7 @@ use mathlib.Core.List.{List, [], _++_}
 use Prim.Native.Nat.{ℕ, suc, _^_, _≤_, _<_}
 use lib.ListN.{length, drop}
 use Rattle.answers.specs.Answer.{given}
-use Rattle.answers.specs.Outcomes.{Outcome}
+use Rattle.answers.specs.Outcomes.{Outcome, outcome}
 use Rattle.answers.specs.Entries.{Refuses, Keeps}
 use Rattle.answers.specs.Order.{refusal, noRefusal}
 use Rattle.answers.specs.Refusals.{numberOf}
@@ -18,6 +18,7 @@ use Rattle.assembly.specs.Places.{UnreadableAt, WrongNumberAt, NoHalfAt}
 use Rattle.assembler.specs.declared.Assembled.{Assembled}
 use Rattle.assembler.specs.declared.Assembled.the-variants.{Refused}
 use Rattle.assembler.specs.Entry.{assembleEntry, ofAssembled}
+use Rattle.c_assembly.specs.Assembly.{assembleCall}
 use Rattle.promises_codes.specs.Instructions.{decodes, expands}
 
 -- ---- what lines give
@@ -40,6 +41,10 @@ pub data LinesGive : List ℕ → List ℕ → Type 0 where
 abbrev pub Fills : Outcome Assembled (List ℕ) → List ℕ → List ℕ → Type 0
 Fills o out room = (ofAssembled (o .answer) ≡ given (length out)) × (o .lent ≡ out ++ drop (length out) room)
 
+-- such lines, whose output stands in the room
+abbrev pub Assembles : List ℕ → List ℕ → Type 0
+Assembles text room = (out : List ℕ) × LinesGive text out × Fills (assembleEntry text room) out room
+
 -- every legal 32-bit instruction listed and read back gives its own bits
 abbrev pub WordBack : Type 0
 WordBack = (w : ℕ) (i : Inst) (room : List ℕ) → w < 2 ^ 32 → 4 ≤ length room → decodes w ≡ given i → Fills (assembleEntry (textOf i ++ bytes "\n") room) (littleEndian 4 w) room
@@ -56,9 +61,7 @@ LinesBack = (text out room : List ℕ) → LinesGive text out → length out ≤
 
 -- and nothing else is accepted: every accepted line is the text of the instruction that it gives
 abbrev pub OnlyLines : Type 0
-OnlyLines =
-    (text room : List ℕ) (n : ℕ) → ofAssembled (assembleEntry text room .answer) ≡ given n
-    → (out : List ℕ) × LinesGive text out × (length out ≡ n)
+OnlyLines = (text room : List ℕ) (n : ℕ) → ofAssembled (assembleEntry text room .answer) ≡ given n → Assembles text room
 
 -- empty text gives nothing
 abbrev pub EmptyText : Type 0
@@ -76,6 +79,14 @@ pub data AtFault : List ℕ → ℕ → ℕ → Type 0 where
 pub data FirstFault : List ℕ → ℕ → ℕ → ℕ → Type 0 where
   here : {text : List ℕ} {n p : ℕ} → 0 < length text → AtFault text n p → FirstFault text n 0 p
   later : {l bs text : List ℕ} {n k p : ℕ} → LineGives l bs → FirstFault text n k p → FirstFault (l ++ text) n (suc k) p
+
+-- no line is at fault
+abbrev pub NoFault : List ℕ → Type 0
+NoFault text = (n k p : ℕ) → FirstFault text n k p → ⊥
+
+-- then a room as long as the text suffices
+abbrev pub RoomSuffices : Type 0
+RoomSuffices = (text room : List ℕ) → NoFault text → length text ≤ length room → Assembles text room
 
 -- 13: no line is at fault, and the room is shorter than the whole output
 abbrev pub ShortRoom : List ℕ → List ℕ → Type 0
@@ -113,3 +124,13 @@ abbrev pub RestStays : Type 0
 RestStays =
     (text room : List ℕ) (n : ℕ) → ofAssembled (assembleEntry text room .answer) ≡ given n
     → (length (assembleEntry text room .lent) ≡ length room) × (drop n (assembleEntry text room .lent) ≡ drop n room)
+
+-- ---- the C call
+
+-- the line and the byte of the first line at fault, with 10, 11 or 12, stand in their places, and length and room stay; or no line is at fault, and with 0 and 13 both places stay
+abbrev pub PlacesTold : Type 0
+PlacesTold =
+    (text room : List ℕ) (len line byte : ℕ)
+    → let call = assembleCall text room len (line, byte) in
+    ((n k p : ℕ) × FirstFault text n k p × (call ≡ outcome n ((len, (k, p)), room)))
+    ⊎ (NoFault text × ((call .answer ≡ 0) ⊎ (call .answer ≡ 13)) × (call .lent .0 .1 ≡ (line, byte)))

@@ -1,47 +1,55 @@
 -- Over one piece. Assumes nothing.
-use mathlib.Core.Path.{_≡_, refl, ap, sym, _∙_}
+use mathlib.Core.Path.{_≡_, refl, ap, sym, _∙_, subst}
 use mathlib.Core.List.{List}
 use mathlib.Core.Bool.{Bool, true, false, cond, _&&_}
+use mathlib.Core.Logic.{⊎-elim}
 use Prim.Native.Nat.{ℕ, _+_, _-_, _≤_, _<_}
-use lib.Dec.{eqb, ltb}
+use lib.Dec.{T, eqb, leb, ltb, leb→le}
 use lib.ListN.{length, getD, drop, drop-of-length-le}
 use lib.Seq.{drop-cons}
-use borrow.Author.Tests.{le-leb, lt-leb, eq-eqb, ne-eqb}
+use Rattle.word.proofs.Bools.{and-left, below}
 use Rattle.assembly.specs.Lines.{pieceOf, minus, word}
 use Rattle.assembly.specs.Scanner.{numeral}
 use Rattle.assembly.specs.Numbers.{valueOf, plain, fits, holdsImm}
 use Rattle.numerals.specs.declared.Number.{Number}
 use Rattle.reader.specs.declared.Fields.{Fields}
+use Rattle.reader.specs.declared.Read.{Read}
 use Rattle.reader.specs.declared.Read.the-variants.{At, Stuck}
 use Rattle.numerals.specs.Numbers.{front, numberAt}
-use Rattle.reader.specs.Reading.{put, fault, taken, takenNumber, overByte, overField, overPiece}
+use Rattle.reader.specs.Reading.{put, fault, taken, takenNumber, isField, startsWith, overField, overPiece}
 
 -- ---- a byte
 
-module _ (s : List ℕ) (b at : ℕ) (x : Fields) where
-  pub byte-past : length s ≤ at → Stuck at ≡ overByte b (drop at s) at x
-  byte-past h = rw (drop-of-length-le s h)
+module _ (s : List ℕ) (b at : ℕ) where
+  pub starts-past : length s ≤ at → false ≡ startsWith b (drop at s)
+  starts-past h = rw (drop-of-length-le s h)
 
-  pub byte-not : at < length s → (getD s at 0 ≡ b → ⊥) → Stuck at ≡ overByte b (drop at s) at x
-  byte-not h n = rw (drop-cons s at 0 h, ne-eqb (getD s at 0) b n)
+  pub starts-here : at < length s → eqb (getD s at 0) b ≡ startsWith b (drop at s)
+  starts-here h = rw (drop-cons s at 0 h)
 
-  pub byte-is : at < length s → getD s at 0 ≡ b → At (at + 1) x ≡ overByte b (drop at s) at x
-  byte-is h e = rw (drop-cons s at 0 h, eq-eqb (getD s at 0) b e)
+  pub starts-within : startsWith b (drop at s) ≡ true → at < length s
+  starts-within e =
+      ⊎-elim (λ (h : at < length s). h)
+      (λ (h : length s ≤ at). let z : false ≡ true = starts-past h ∙ e in absurd (subst T (sym z) tt))
+      (below at (length s))
 
 -- ---- which piece
 
+pub field-low : (p : ℕ) → isField p ≡ true → 49 ≤ p
+field-low p e = leb→le 49 p (and-left (leb 49 p) (leb p 52) (rw e tt))
+
 module _ (k p n : ℕ) (l : List ℕ) (x : Fields) where
-  pub piece-low : p < 49 → overByte p l n x ≡ overPiece k (pieceOf p) l n x
+  pub piece-field : isField p ≡ true → (o : Read) → o ≡ overField k (p - 48) l n x → (r : Read) → o ≡ r → r ≡ overPiece k (pieceOf p) l n x
   unfolding overPiece
-  piece-low h = rw (lt-leb 49 p h)
+  piece-field e o q r w = rw e (sym w ∙ q)
 
-  pub piece-high : 49 ≤ p → 52 < p → overByte p l n x ≡ overPiece k (pieceOf p) l n x
+  pub byte-is : isField p ≡ false → startsWith p l ≡ true → At (n + 1) x ≡ overPiece k (pieceOf p) l n x
   unfolding overPiece
-  piece-high g h = rw (le-leb 49 p g, lt-leb p 52 h)
+  byte-is e h = rw (e, h)
 
-  pub piece-field : 49 ≤ p → p ≤ 52 → overField k (p - 48) l n x ≡ overPiece k (pieceOf p) l n x
+  pub byte-not : isField p ≡ false → startsWith p l ≡ false → Stuck n ≡ overPiece k (pieceOf p) l n x
   unfolding overPiece
-  piece-field g h = rw (le-leb 49 p g, le-leb p 52 h)
+  byte-not e h = rw (e, h)
 
 -- ---- a number
 

@@ -30,7 +30,7 @@ use Rattle.reader.proofs.Following.{stays as along-stays}
 
 -- ---- by one shape
 
-abbrev toRead : ℕ → Scan → Read
+abbrev pub toRead : ℕ → Scan → Read
 toRead k (at n l ws) = At n (takenAll k ws noFields)
 toRead k (stuck n) = Stuck n
 
@@ -96,12 +96,12 @@ pieces-line [] = refl
 pieces-line (b ∷ t) = ap (λ (q : List Piece). pieceOf b ∷ q) (pieces-line t)
 
 -- from a place on, with no number yet
-from-alike : (k : ℕ) (s : List ℕ) (n : ℕ) → readBy n s k ≡ toRead k (scan (shape false k) (at n (drop n s) []))
+pub from-alike : (k : ℕ) (s : List ℕ) (n : ℕ) → readBy n s k ≡ toRead k (scan (shape false k) (at n (drop n s) []))
 unfolding shape sampleLine takenAll
 from-alike k s n = reads-alike k s (sampleLine k) n [] ∙ ap (λ (q : List Piece). toRead k (scan q (at n (drop n s) []))) (sym (pieces-line (textOf (sample k))))
 
 -- with c: in front
-short-alike : (k : ℕ) (s : List ℕ) → cond (eqb (prefix s) 2) (readBy 2 s k) (Stuck (prefix s)) ≡ toRead k (scan (shape true k) (at 0 s []))
+pub short-alike : (k : ℕ) (s : List ℕ) → cond (eqb (prefix s) 2) (readBy 2 s k) (Stuck (prefix s)) ≡ toRead k (scan (shape true k) (at 0 s []))
 unfolding shape shortTextOf scan
 short-alike k [] = sym (ap (toRead k) (stays (pieces (textOf (sample k))) 0))
 short-alike k (b ∷ l) = go (eqb b 99) l refl
@@ -123,7 +123,7 @@ short-alike k (b ∷ l) = go (eqb b 99) l refl
 
 -- ---- by all
 
-abbrev scanned : Bool → ℕ → List ℕ → Scan
+abbrev pub scanned : Bool → ℕ → List ℕ → Scan
 scanned c k s = scan (shape c k) (at 0 s [])
 
 line-same : (c : Bool) (k : ℕ) (s : List ℕ) → Same s (lineOf c k (toRead k (scanned c k s))) (S.lineOf c k (scanned c k s))

@@ -2,7 +2,8 @@
 use mathlib.Core.Bool.{Bool, true, false, cond, _&&_}
 use mathlib.Core.List.{List, [], _∷_}
 use Prim.Native.Nat.{ℕ, _+_}
-use lib.Dec.{eqb, ltb}
+use Prim.Native.Char.{code}
+use lib.Dec.{eqb, leb, ltb}
 use lib.ListN.{drop}
 use Rattle.assembly.specs.Lines.{Piece, byte, field, pieceOf, minus, Word, word}
 use Rattle.assembly.specs.Scanner.{numeral}
@@ -38,10 +39,17 @@ allowedNumber k f n = n .good && cond (eqb f 4) (holdsImm k (n .value)) (ltb (n 
 abbrev pub takenNumber : ℕ → ℕ → ℕ → Number → Fields → Fields
 takenNumber k f at n x = cond (allowedNumber k f n) (put f (n .value) x) (fault at x)
 
+-- which piece a byte of a sample stands for
+abbrev pub isField : ℕ → Bool
+isField b = leb (code "1") b && leb b (code "4")
+
+abbrev pub startsWith : ℕ → List ℕ → Bool
+startsWith b [] = false
+startsWith b (c ∷ l) = eqb c b
+
 -- over one piece
 abbrev pub overByte : ℕ → List ℕ → ℕ → Fields → Read
-overByte b [] n x = Stuck n
-overByte b (c ∷ l) n x = cond (eqb c b) (At (n + 1) x) (Stuck n)
+overByte b l n x = cond (startsWith b l) (At (n + 1) x) (Stuck n)
 
 abbrev pub overField : ℕ → ℕ → List ℕ → ℕ → Fields → Read
 overField k f l n x = cond (ltb (minus f l) (numeral f l)) (At (n + numeral f l) (taken k (word f n (front f l)) x)) (Stuck (n + numeral f l))

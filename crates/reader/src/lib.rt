@@ -4,16 +4,15 @@ use isa::Reg;
 use numerals::Number;
 use numerals::read_number;
 use ranges::in_range;
-use text::sample_byte;
+use text::sample_line;
 ghost use mathlib.Core.Path.{_≡_};
 ghost use mathlib.Core.Bool.{cond};
 ghost use Prim.Native.Nat.{_≤_, _<_};
 ghost use lib.Dec.{ltb};
 ghost use lib.ListN.{length, drop};
-ghost use Rattle.assembly.specs.Lines.{pieceOf};
 ghost use Rattle.text.specs.Samples.{sampleLine};
 ghost use Rattle.reader.specs.Line.{amongFrom, prefix as Line·prefix, firstLine};
-ghost use Rattle.reader.specs.Reading.{allowedNumber, put as Reading·put, takenNumber, overByte, overPiece, along, noFields};
+ghost use Rattle.reader.specs.Reading.{allowedNumber, put as Reading·put, takenNumber, isField, startsWith, overField, along, noFields};
 ghost use Rattle.reader.specs.declared.Read.the-variants.{At};
 
 // The numbers of a line so far, by field, and the place of the leftmost wrong one.
@@ -24,6 +23,17 @@ pub struct Fields {
     pub imm: u32,
     pub wrong: bool,
     pub place: usize,
+}
+
+impl Fields {
+    const NONE: Fields = Fields {
+        rd: 0,
+        rs1: 0,
+        rs2: 0,
+        imm: 0,
+        wrong: false,
+        place: 0,
+    };
 }
 
 // A place in the line, with the fields so far; or the place of a byte that can't go on.
@@ -113,30 +123,31 @@ fn taken(fields: Fields, operation: u8, field: u8, at: usize, number: Number) ->
     }
 }
 
-fn over_byte(text: &[u8], at: usize, fields: Fields, byte: u8) -> Read
-    ensures { λ r. ⌜ r ≡ overByte byte (drop at (now (text .entry))) at fields ⌝ }
-{
-    if at >= text.len() {
-        return Read::Stuck(at);
-    }
-    if text[at] != byte {
-        return Read::Stuck(at);
-    }
-    Read::At(at + 1, fields)
-}
-
-// Over one piece of an operation's line: a byte, or the number of a field.
-fn over(text: &[u8], at: usize, fields: Fields, operation: u8, piece: u8) -> Read
-    requires { ⌜ at ≤ length (now text) ⌝ }
-    ensures { λ r. ⌜ r ≡ overPiece operation (pieceOf piece) (drop at (now (text .entry))) at fields ⌝ }
+// Whether a byte of a sample line stands for the number of a field.
+fn is_field(piece: u8) -> bool
+    ensures { λ r. ⌜ r ≡ isField piece ⌝ }
 {
     if piece < b'1' {
-        return over_byte(text, at, fields, piece);
+        return false;
     }
-    if piece > b'4' {
-        return over_byte(text, at, fields, piece);
+    piece <= b'4'
+}
+
+// Whether a byte stands at a place.
+fn stands(text: &[u8], at: usize, byte: u8) -> bool
+    ensures { λ r. ⌜ r ≡ startsWith byte (drop at (now (text .entry))) ⌝ }
+{
+    if at >= text.len() {
+        return false;
     }
-    let field = piece - b'0';
+    text[at] == byte
+}
+
+// Over the number of a field.
+fn over_field(text: &[u8], at: usize, fields: Fields, operation: u8, field: u8) -> Read
+    requires { ⌜ at ≤ length (now text) ⌝ }
+    ensures { λ r. ⌜ r ≡ overField operation field (drop at (now (text .entry))) at fields ⌝ }
+{
     let number = read_number(text, at, field);
     if !number.any {
         return Read::Stuck(number.end);
@@ -149,30 +160,31 @@ fn follow(text: &[u8], from: usize, operation: u8) -> Read
     requires { ⌜ (from ≤ length (now text)) × (operation < 48) ⌝ }
     ensures { λ r. ⌜ r ≡ along operation (sampleLine operation) (now (text .entry)) (At from noFields) ⌝ }
 {
+    let line = sample_line(operation);
     let mut at = from;
-    let mut fields = Fields {
-        rd: 0,
-        rs1: 0,
-        rs2: 0,
-        imm: 0,
-        wrong: false,
-        place: 0,
-    };
+    let mut fields = Fields::NONE;
     let mut j = 0;
     while j < 16 {
-        let piece = sample_byte(operation, j);
+        let piece = line[j];
         if piece == 0 {
             return Read::At(at, fields);
         }
-        match over(text, at, fields, operation, piece) {
-            Read::Stuck(n) => {
-                return Read::Stuck(n);
+        j += 1;
+        if is_field(piece) {
+            match over_field(text, at, fields, operation, piece - b'0') {
+                Read::Stuck(n) => {
+                    return Read::Stuck(n);
+                }
+                Read::At(n, more) => {
+                    at = n;
+                    fields = more;
+                }
             }
-            Read::At(n, more) => {
-                at = n;
-                fields = more;
-                j += 1;
+        } else {
+            if !stands(text, at, piece) {
+                return Read::Stuck(at);
             }
+            at += 1;
         }
     }
     Read::At(at, fields)
@@ -227,8 +239,42 @@ fn prefix(text: &[u8]) -> usize
     2
 }
 
-// The first line of a text.
-pub fn first_line(text: &[u8]) -> Line
+// For each sum that `guess` makes of a line's first bytes the operation whose name makes it, and 0
+// where none does. The sample lines decide what is read: a name that this table misses makes its
+// lines slow, not wrong.
+const GUESSES: [u8; 128] = *b"\
+    \x00\x00\x00\x14\x00\x08\x00\x00\x00\x00\x00\x03\x00\x00\x2e\x2d\
+    \x00\x00\x25\x00\x00\x00\x1f\x16\x00\x26\x00\x00\x00\x00\x00\x1b\
+    \x00\x1d\x00\x00\x0a\x00\x04\x00\x00\x00\x00\x0f\x12\x00\x18\x00\
+    \x00\x00\x27\x2f\x00\x01\x07\x00\x00\x21\x00\x00\x0b\x00\x00\x28\
+    \x00\x00\x00\x10\x00\x00\x19\x24\x00\x00\x29\x22\x0d\x00\x00\x2b\
+    \x2a\x00\x05\x00\x17\x00\x00\x00\x1a\x00\x00\x09\x00\x00\x00\x00\
+    \x06\x1c\x00\x00\x0e\x00\x00\x23\x00\x00\x2c\x00\x02\x00\x20\x00\
+    \x00\x1e\x00\x00\x00\x00\x00\x00\x0c\x00\x00\x15\x00\x00\x13\x11";
+
+// The low seven bits of the byte at a place, and 0 past the end.
+fn low_bits(text: &[u8], at: usize) -> usize
+    ensures { λ r. ⌜ r < 128 ⌝ }
+{
+    if at >= text.len() {
+        return 0;
+    }
+    (text[at] % 128) as usize
+}
+
+// The operation that the line in front probably has. Of the fifth and the sixth byte only whether
+// they are letters counts: digits of an operand may stand there.
+fn guess(text: &[u8]) -> u8
+    ensures { λ r. ⌜ r < 48 ⌝ }
+{
+    let two = low_bits(text, 0) + low_bits(text, 1) * 4;
+    let four = two + low_bits(text, 2) * 10 + low_bits(text, 3) * 2;
+    let six = four + low_bits(text, 4) / 64 * 6 + low_bits(text, 5) / 64;
+    GUESSES[six % 128] % 48
+}
+
+// The first line of a text, sought among all operations, without c: and with it.
+fn search(text: &[u8]) -> Line
     ensures { λ r. ⌜ r ≡ firstLine (now (text .entry)) ⌝ }
 {
     let long = among(text, 0, false);
@@ -244,4 +290,17 @@ pub fn first_line(text: &[u8]) -> Line
         return short;
     };
     Line::Unreadable(larger(p, q))
+}
+
+// The first line of a text. The guess reads most lines; only the search tells where one is stuck.
+pub fn first_line(text: &[u8]) -> Line
+    ensures { λ r. ⌜ r ≡ firstLine (now (text .entry)) ⌝ }
+{
+    let short = prefix(text) == 2;
+    let from = short as usize * 2;
+    let operation = guess(&text[from..]);
+    match follow(text, from, operation) {
+        Read::At(n, fields) => Line::Reads(short, operation, fields, n),
+        Read::Stuck(_) => search(text),
+    }
 }

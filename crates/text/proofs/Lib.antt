@@ -1,4 +1,3 @@
-pub mod Names
 pub mod Samples
 pub mod Lengths
 pub mod ShortLengths

@@ -1,60 +1,92 @@
--- The 48 sample lines: none is longer than sixteen bytes, and each begins with its name, which ends before a space or a newline. Assumes nothing.
-use mathlib.Core.Path.{_≡_}
-use mathlib.Core.Bool.{Bool, true, cond}
-use mathlib.Core.List.{List}
-use Prim.Native.Nat.{ℕ, _+_, _*_, _≤_, _<_}
+-- The 48 sample lines, which antt computes: the table has them in sixteen bytes each, and each begins with its name. Assumes nothing.
+use mathlib.Core.Path.{_≡_, refl, ap, sym, _∙_}
+use mathlib.Core.Bool.{true, cond}
+use mathlib.Core.List.{List, [], _∷_}
+use Prim.Native.Nat.{ℕ, zero, suc, _+_, _≤_, _<_}
 use native.Mathlib.Omega.{arith}
+use native.Mathlib.Nat.{le-of-suc-le-suc}
+use native.Mathlib.Numerals.{add-one}
 use borrow.Author.Tests.{le-leb, lt-leb, lt-ltb}
-use lib.Dec.{T, eqb, leb, ltb, leb→le, eqb→eq}
-use lib.ListN.{length, getD}
-use Rattle.word.proofs.Sweep.{every, ruled, entry, at}
+use lib.Dec.{T, leb, ltb, leb→le}
+use lib.ListN.{length, getD, drop, drop-of-length-le, List·getD-eq-default}
+use lib.Seq.{drop-cons}
+use Rattle.word.proofs.Sweep.{every, at}
+use Rattle.ascii.specs.Ascii.{bytes}
 use Rattle.ascii.specs.Numbers.{decimal, decimalBy, signedDecimal}
 use Rattle.isa.specs.Building.{built}
 use Rattle.text.specs.Names.{names, nameAt}
 use Rattle.text.specs.Text.{operandsOf, textOf}
-use Rattle.text.specs.Samples.{sampleLine}
-use Rattle.text.proofs.Names.{name-short}
+use Rattle.text.specs.Samples.{sampleLine, padded, nameOf}
 
--- a line is a row of sixteen bytes
-abbrev byteOf : ℕ → ℕ → ℕ
-byteOf o k = getD (sampleLine o) k 0
+-- ---- n entries from a number on
 
-pub rule : (table : List ℕ) → T (every (ruled 16 768 byteOf table) 10 0) → (o k : ℕ) → o < 48 → k < 16 → getD table (o * 16 + k) 0 ≡ byteOf o k
-rule table t o k l m = entry 16 768 10 byteOf table t o k m (omega arith) (omega arith)
+abbrev entries : (ℕ → List ℕ) → ℕ → ℕ → List (List ℕ)
+entries f zero o = []
+entries f (suc n) o = f o ∷ entries f n (suc o)
 
--- what holds of each of the 48
-of-each : (test : ℕ → Bool) → T (every (λ (o : ℕ). cond (ltb o 48) (test o) true) 6 0) → (o : ℕ) → o < 48 → T (test o)
-of-each test t o h = rw (lt-ltb o 48 h) at (at (λ (o : ℕ). cond (ltb o 48) (test o) true) 6 0 t o (omega arith) (omega arith))
+entry : (f : ℕ → List ℕ) (n first o k : ℕ) (default : List ℕ) → o < n → first + o ≡ k → getD (entries f n first) o default ≡ f k
+entry f zero first o k default h e = absurd (omega arith)
+entry f (suc n) first zero k default h e = ap f (omega arith)
+entry f (suc n) first (suc o) k default h e = entry f n (suc first) o k default (le-of-suc-le-suc h) (omega arith)
 
-abbrev short : ℕ → Bool
-short o = leb (length (sampleLine o)) 16
+-- ---- the table
 
-computed-short : T (every (λ (o : ℕ). cond (ltb o 48) (short o) true) 6 0)
+abbrev row : ℕ → List ℕ
+row o = padded 16 (sampleLine o)
+
+pub rule : (table : List (List ℕ)) (o : ℕ) (default : List ℕ) → o < 48 → table ≡ entries row 48 0 → getD table o default ≡ row o
+rule table o default h e = ap (λ (t : List (List ℕ)). getD t o default) e ∙ entry row 48 0 o o default h (omega arith)
+
+pub padded-length : (n : ℕ) (l : List ℕ) → length (padded n l) ≡ n
+unfolding padded
+padded-length zero l = refl
+padded-length (suc n) [] = ap suc (padded-length n [])
+padded-length (suc n) (b ∷ l) = ap suc (padded-length n l)
+
+padded-byte : (n : ℕ) (l : List ℕ) (k : ℕ) → k < n → getD (padded n l) k 0 ≡ getD l k 0
+unfolding padded
+padded-byte zero l k h = absurd (omega arith)
+padded-byte (suc n) [] zero h = refl
+padded-byte (suc n) [] (suc k) h = padded-byte n [] k (le-of-suc-le-suc h)
+padded-byte (suc n) (b ∷ l) zero h = refl
+padded-byte (suc n) (b ∷ l) (suc k) h = padded-byte n l k (le-of-suc-le-suc h)
+
+pub line-byte : (line : List ℕ) (o k : ℕ) → line ≡ padded 16 (sampleLine o) → k < 16 → getD line k 0 ≡ getD (sampleLine o) k 0
+line-byte line o k e h = ap (λ (l : List ℕ). getD l k 0) e ∙ padded-byte 16 (sampleLine o) k h
+
+computed-short : T (every (λ (o : ℕ). cond (ltb o 48) (leb (length (sampleLine o)) 16) true) 6 0)
 unfolding decimal decimalBy signedDecimal names nameAt operandsOf textOf built sampleLine
 computed-short = tt
 
 pub sample-short : (o : ℕ) → o < 48 → length (sampleLine o) ≤ 16
-sample-short o h = leb→le (length (sampleLine o)) 16 (of-each short computed-short o h)
+sample-short o h =
+    let t = at (λ (o : ℕ). cond (ltb o 48) (leb (length (sampleLine o)) 16) true) 6 0 computed-short o (omega arith) (omega arith) in
+    leb→le (length (sampleLine o)) 16 (rw (lt-ltb o 48 h) at t)
 
--- a space in the place of a space or a newline
-abbrev spaced : ℕ → ℕ
-spaced b = cond (leb b 32) 32 b
+-- ---- names
 
-abbrev named : ℕ → ℕ → Bool
-named o k = cond (leb k (length (nameAt o))) (eqb (spaced (byteOf o k)) (getD (nameAt o) k 32)) true
+-- no operation has a number above 47
+pub no-name : (o : ℕ) → 48 ≤ o → nameAt o ≡ []
+unfolding names nameAt
+no-name o h = ap bytes (List·getD-eq-default names "" h)
 
-computed-named : T (every (λ (o : ℕ). cond (ltb o 48) (every (named o) 3 0) true) 6 0)
-unfolding decimal decimalBy signedDecimal names nameAt operandsOf textOf built sampleLine
-computed-named = tt
+named : entries (λ o. nameOf (row o)) 48 0 ≡ entries nameAt 48 0
+unfolding decimal decimalBy signedDecimal names nameAt operandsOf textOf built sampleLine padded nameOf
+named = refl
 
-name-there : (o k : ℕ) → o < 48 → k ≤ length (nameAt o) → spaced (byteOf o k) ≡ getD (nameAt o) k 32
-name-there o k h m =
-    let t : T (named o k) = at (named o) 3 0 (of-each (λ o. every (named o) 3 0) computed-named o h) k (omega arith) (omega (arith, name-short o)) in
-    eqb→eq (spaced (byteOf o k)) (getD (nameAt o) k 32) (rw (le-leb k (length (nameAt o)) m) at t)
+pub name-first : (o : ℕ) → o < 48 → nameOf (row o) ≡ nameAt o
+name-first o h =
+    sym (entry (λ o. nameOf (row o)) 48 0 o o [] h (omega arith)) ∙ ap (λ (t : List (List ℕ)). getD t o []) named ∙ entry nameAt 48 0 o o [] h (omega arith)
 
--- its byte at k, as the code finds it
-pub name-ends : (o k : ℕ) → o < 48 → k ≤ length (nameAt o) → byteOf o k ≤ 32 → 32 ≡ getD (nameAt o) k 32
-name-ends o k h m l = rw (le-leb (byteOf o k) 32 l) at (name-there o k h m)
+module _ (line : List ℕ) (k : ℕ) where
+  pub name-past : length line ≤ k → nameOf (drop k line) ≡ []
+  unfolding nameOf
+  name-past h = rw (drop-of-length-le line h)
 
-pub name-has : (o k : ℕ) → o < 48 → k ≤ length (nameAt o) → 32 < byteOf o k → byteOf o k ≡ getD (nameAt o) k 32
-name-has o k h m l = rw (lt-leb (byteOf o k) 32 l) at (name-there o k h m)
+  pub name-over : k < length line → getD line k 0 ≤ 32 → nameOf (drop k line) ≡ []
+  unfolding nameOf
+  name-over h l = rw (drop-cons line k 0 h, le-leb (getD line k 0) 32 l)
+
+  pub name-goes-on : k < length line → 32 < getD line k 0 → nameOf (drop k line) ≡ getD line k 0 ∷ nameOf (drop (k + 1) line)
+  unfolding nameOf
+  name-goes-on h l = rw (drop-cons line k 0 h, lt-leb (getD line k 0) 32 l, add-one k)

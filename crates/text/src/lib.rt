@@ -9,11 +9,11 @@ use parts::parts_of;
 ghost use mathlib.Core.Path.{_≡_};
 ghost use mathlib.Core.List.{_∷_, _++_};
 ghost use Prim.Native.Nat.{_+_, _≤_, _<_};
-ghost use lib.ListN.{length, getD, drop};
+ghost use lib.ListN.{length, drop};
 ghost use Rattle.ascii.specs.Numbers.{signedDecimal};
 ghost use Rattle.ascii.specs.Rooms.{Wrote};
 ghost use Rattle.text.specs.Names.{nameAt};
-ghost use Rattle.text.specs.Samples.{sampleLine};
+ghost use Rattle.text.specs.Samples.{sampleLine, padded, nameOf};
 ghost use Rattle.text.specs.Text.{space, comma, parens, registerText, shown, operandsOf, textOf, shortTextOf};
 
 // An operand as its text shows it: a register, an unsigned number, or a number in two's complement.
@@ -26,94 +26,92 @@ pub enum Operand {
 // A line of each operation, in the paper's order, with 1, 2, 3 and 4 as rd, rs1, rs2 and immediate,
 // each in sixteen bytes: the names that the disassembler writes, and the shapes that the assembler
 // reads by.
-const LINES: [u8; 768] = *b"\
-    lui x1,4\n\0\0\0\0\0\0\0\
-    auipc x1,4\n\0\0\0\0\0\
-    jal x1,4\n\0\0\0\0\0\0\0\
-    jalr x1,4(x2)\n\0\0\
-    beq x2,x3,4\n\0\0\0\0\
-    bne x2,x3,4\n\0\0\0\0\
-    blt x2,x3,4\n\0\0\0\0\
-    bge x2,x3,4\n\0\0\0\0\
-    bltu x2,x3,4\n\0\0\0\
-    bgeu x2,x3,4\n\0\0\0\
-    lb x1,4(x2)\n\0\0\0\0\
-    lh x1,4(x2)\n\0\0\0\0\
-    lw x1,4(x2)\n\0\0\0\0\
-    lbu x1,4(x2)\n\0\0\0\
-    lhu x1,4(x2)\n\0\0\0\
-    sb x3,4(x2)\n\0\0\0\0\
-    sh x3,4(x2)\n\0\0\0\0\
-    sw x3,4(x2)\n\0\0\0\0\
-    addi x1,x2,4\n\0\0\0\
-    slti x1,x2,4\n\0\0\0\
-    sltiu x1,x2,4\n\0\0\
-    xori x1,x2,4\n\0\0\0\
-    ori x1,x2,4\n\0\0\0\0\
-    andi x1,x2,4\n\0\0\0\
-    slli x1,x2,4\n\0\0\0\
-    srli x1,x2,4\n\0\0\0\
-    srai x1,x2,4\n\0\0\0\
-    add x1,x2,x3\n\0\0\0\
-    sub x1,x2,x3\n\0\0\0\
-    sll x1,x2,x3\n\0\0\0\
-    slt x1,x2,x3\n\0\0\0\
-    sltu x1,x2,x3\n\0\0\
-    xor x1,x2,x3\n\0\0\0\
-    srl x1,x2,x3\n\0\0\0\
-    sra x1,x2,x3\n\0\0\0\
-    or x1,x2,x3\n\0\0\0\0\
-    and x1,x2,x3\n\0\0\0\
-    fence x1,x2,4\n\0\0\
-    ecall\n\0\0\0\0\0\0\0\0\0\0\
-    ebreak\n\0\0\0\0\0\0\0\0\0\
-    mul x1,x2,x3\n\0\0\0\
-    mulh x1,x2,x3\n\0\0\
-    mulhsu x1,x2,x3\n\
-    mulhu x1,x2,x3\n\0\
-    div x1,x2,x3\n\0\0\0\
-    divu x1,x2,x3\n\0\0\
-    rem x1,x2,x3\n\0\0\0\
-    remu x1,x2,x3\n\0\0";
+const LINES: [[u8; 16]; 48] = [
+    *b"lui x1,4\n\0\0\0\0\0\0\0",
+    *b"auipc x1,4\n\0\0\0\0\0",
+    *b"jal x1,4\n\0\0\0\0\0\0\0",
+    *b"jalr x1,4(x2)\n\0\0",
+    *b"beq x2,x3,4\n\0\0\0\0",
+    *b"bne x2,x3,4\n\0\0\0\0",
+    *b"blt x2,x3,4\n\0\0\0\0",
+    *b"bge x2,x3,4\n\0\0\0\0",
+    *b"bltu x2,x3,4\n\0\0\0",
+    *b"bgeu x2,x3,4\n\0\0\0",
+    *b"lb x1,4(x2)\n\0\0\0\0",
+    *b"lh x1,4(x2)\n\0\0\0\0",
+    *b"lw x1,4(x2)\n\0\0\0\0",
+    *b"lbu x1,4(x2)\n\0\0\0",
+    *b"lhu x1,4(x2)\n\0\0\0",
+    *b"sb x3,4(x2)\n\0\0\0\0",
+    *b"sh x3,4(x2)\n\0\0\0\0",
+    *b"sw x3,4(x2)\n\0\0\0\0",
+    *b"addi x1,x2,4\n\0\0\0",
+    *b"slti x1,x2,4\n\0\0\0",
+    *b"sltiu x1,x2,4\n\0\0",
+    *b"xori x1,x2,4\n\0\0\0",
+    *b"ori x1,x2,4\n\0\0\0\0",
+    *b"andi x1,x2,4\n\0\0\0",
+    *b"slli x1,x2,4\n\0\0\0",
+    *b"srli x1,x2,4\n\0\0\0",
+    *b"srai x1,x2,4\n\0\0\0",
+    *b"add x1,x2,x3\n\0\0\0",
+    *b"sub x1,x2,x3\n\0\0\0",
+    *b"sll x1,x2,x3\n\0\0\0",
+    *b"slt x1,x2,x3\n\0\0\0",
+    *b"sltu x1,x2,x3\n\0\0",
+    *b"xor x1,x2,x3\n\0\0\0",
+    *b"srl x1,x2,x3\n\0\0\0",
+    *b"sra x1,x2,x3\n\0\0\0",
+    *b"or x1,x2,x3\n\0\0\0\0",
+    *b"and x1,x2,x3\n\0\0\0",
+    *b"fence x1,x2,4\n\0\0",
+    *b"ecall\n\0\0\0\0\0\0\0\0\0\0",
+    *b"ebreak\n\0\0\0\0\0\0\0\0\0",
+    *b"mul x1,x2,x3\n\0\0\0",
+    *b"mulh x1,x2,x3\n\0\0",
+    *b"mulhsu x1,x2,x3\n",
+    *b"mulhu x1,x2,x3\n\0",
+    *b"div x1,x2,x3\n\0\0\0",
+    *b"divu x1,x2,x3\n\0\0",
+    *b"rem x1,x2,x3\n\0\0\0",
+    *b"remu x1,x2,x3\n\0\0",
+];
 
-// The byte of an operation's line at k, and 0 after its end.
-pub fn sample_byte(operation: u8, k: usize) -> u8
+// The line of an operation, with 0 after its end. Each use of the table writes all of it out, so a
+// reader takes its line once and not byte by byte.
+pub fn sample_line(operation: u8) -> [u8; 16]
     requires { ⌜ operation < 48 ⌝ }
-    ensures { λ r. ⌜ r ≡ getD (sampleLine operation) k 0 ⌝ }
+    ensures { λ r. ⌜ r ≡ padded 16 (sampleLine operation) ⌝ }
+{
+    LINES[operation as usize]
+}
+
+// The name in front of a line, from its byte k on.
+fn put_name_from(room: &mut [u8], at: usize, line: [u8; 16], k: usize) -> usize
+    requires { ⌜ length line ≡ 16 ⌝ }
+    requires { ⌜ at + length (nameOf (drop k line)) ≤ length (now room) ⌝ }
+    ensures { λ r. ⌜ Wrote (now (room .entry)) at (nameOf (drop k line)) (now (room .exit)) r ⌝ }
 {
     if k >= 16 {
-        return 0;
+        return at;
     }
-    LINES[operation as usize * 16 + k]
-}
-
-// The byte of a name at k, and a space after its end.
-fn letter(operation: u8, k: usize) -> u8
-    requires { ⌜ k ≤ length (nameAt operation) ⌝ }
-    ensures { λ r. ⌜ r ≡ getD (nameAt operation) k 32 ⌝ }
-{
-    if operation >= 48 {
-        return b' ';
-    }
-    let byte = sample_byte(operation, k);
+    let byte = line[k];
     if byte <= b' ' {
-        return b' ';
-    }
-    byte
-}
-
-// An operation's name from its byte k on.
-fn put_name_from(room: &mut [u8], at: usize, operation: u8, k: usize) -> usize
-    requires { ⌜ k ≤ length (nameAt operation) ⌝ }
-    requires { ⌜ at + length (drop k (nameAt operation)) ≤ length (now room) ⌝ }
-    ensures { λ r. ⌜ Wrote (now (room .entry)) at (drop k (nameAt operation)) (now (room .exit)) r ⌝ }
-{
-    let byte = letter(operation, k);
-    if byte == b' ' {
         return at;
     }
     let next = put(room, at, byte);
-    put_name_from(room, next, operation, k + 1)
+    put_name_from(room, next, line, k + 1)
+}
+
+// An operation's name.
+fn put_name(room: &mut [u8], at: usize, operation: u8) -> usize
+    requires { ⌜ at + length (nameAt operation) ≤ length (now room) ⌝ }
+    ensures { λ r. ⌜ Wrote (now (room .entry)) at (nameAt operation) (now (room .exit)) r ⌝ }
+{
+    if operation >= 48 {
+        return at;
+    }
+    put_name_from(room, at, sample_line(operation), 0)
 }
 
 // An operand with the space, comma or bracket before it.
@@ -186,7 +184,7 @@ pub fn put_text(room: &mut [u8], at: usize, i: Inst) -> usize
     requires { ⌜ at + length (textOf i) ≤ length (now room) ⌝ }
     ensures { λ r. ⌜ Wrote (now (room .entry)) at (textOf i) (now (room .exit)) r ⌝ }
 {
-    let operands = put_name_from(room, at, parts_of(i).operation, 0);
+    let operands = put_name(room, at, parts_of(i).operation);
     put_operands(room, operands, i)
 }
 

@@ -87,8 +87,14 @@ pub struct Assembly {
     /// A file, or `STANDARD_INPUT`.
     pub text: PathBuf,
     pub image: PathBuf,
-    /// The image whose front the instructions replace.
-    pub onto: Option<PathBuf>,
+    pub onto: Option<Onto>,
+}
+
+/// The image whose first instructions are replaced: those before an address.
+#[derive(Clone, Debug, PartialEq)]
+pub struct Onto {
+    pub old: PathBuf,
+    pub until: usize,
 }
 
 /// The name that stands for no file, where a text is read.
@@ -96,6 +102,13 @@ pub const STANDARD_INPUT: &str = "-";
 
 fn wrong<T>(why: impl ToString) -> Result<T, Error> {
     Err(Error::Usage(why.to_string()))
+}
+
+/// A number of digits alone: a sign would be read too.
+fn number_of(digits: &str, radix: u32) -> Option<u64> {
+    let is_plain = digits.chars().all(|c| c.is_digit(radix));
+    let number = u64::from_str_radix(digits, radix).ok();
+    number.filter(|_| is_plain)
 }
 
 fn is(word: &OsString, names: &[&str]) -> bool {
@@ -169,7 +182,7 @@ const RUN_FLAGS: &[&str] = &[
 const TAKEN: &[Takes] = &[
     takes("run", &["IMAGE"], RUN_VALUES, RUN_FLAGS),
     takes("list", &["IMAGE"], &["--until"], &["--text"]),
-    takes("assemble", &["TEXT"], &["-o", "--onto"], &[]),
+    takes("assemble", &["TEXT"], &["-o", "--onto", "--until"], &[]),
     takes("row", &["FILE"], &[], &[]),
     takes("slot", &["FILE", "K"], &[], &[]),
     takes("status", &["FOLDER"], &[], &[]),
@@ -234,9 +247,9 @@ impl Given {
 
     fn number(&self, name: &str) -> Result<u64, Error> {
         let word = self.value(name)?;
-        match word.to_string_lossy().parse() {
-            Ok(number) => Ok(number),
-            Err(_) => wrong(format!("{name}: {word:?} is not a number from 0 to 2^64-1")),
+        match number_of(&word.to_string_lossy(), 10) {
+            Some(number) => Ok(number),
+            None => wrong(format!("{name}: {word:?} is not a number from 0 to 2^64-1")),
         }
     }
 
@@ -257,13 +270,13 @@ impl Given {
             return Ok(None);
         };
         let text = word.to_string_lossy();
-        let address = match text.strip_prefix("0x") {
-            Some(digits) => usize::from_str_radix(digits, 16),
-            None => text.parse(),
+        let number = match text.strip_prefix("0x") {
+            Some(digits) => number_of(digits, 16),
+            None => number_of(&text, 10),
         };
-        match address {
-            Ok(address) => Ok(Some(address)),
-            Err(_) => wrong(format!(
+        match number.and_then(|number| usize::try_from(number).ok()) {
+            Some(address) => Ok(Some(address)),
+            None => wrong(format!(
                 "{name}: {word:?} is not an address, such as 112 or 0x70"
             )),
         }
@@ -318,10 +331,16 @@ fn list(given: &Given) -> Result<Command, Error> {
 }
 
 fn assembly(given: &Given) -> Result<Assembly, Error> {
+    let until = given.address_if_given("--until")?;
     let assembly = Assembly {
         text: given.path("TEXT")?,
         image: given.path("-o")?,
-        onto: given.path_if_given("--onto"),
+        onto: match (given.path_if_given("--onto"), until) {
+            (None, None) => None,
+            (Some(old), Some(until)) => Some(Onto { old, until }),
+            (Some(_), None) => return wrong("--onto needs --until, as list --text had it"),
+            (None, Some(_)) => return wrong("--until needs --onto"),
+        },
     };
     match assembly.image.as_os_str() == STANDARD_INPUT {
         true => wrong("-o -: an image is written to a file"),
@@ -405,7 +424,8 @@ mod tests {
 
     #[test]
     fn listings_and_texts() {
-        let (image, onto) = (PathBuf::from("a"), Some("c".into()));
+        let (image, old, until) = (PathBuf::from("a"), "c".into(), 112);
+        let onto = Some(Onto { old, until });
         let assembly = |text: &str, onto| {
             let (text, image) = (text.into(), "b".into());
             Command::Assemble(Assembly { text, image, onto })
@@ -431,7 +451,10 @@ mod tests {
         }
         let parsed = |line: &str| parsed(line).expect(line);
         assert_eq!(parsed("assemble a -o b"), assembly("a", None));
-        assert_eq!(parsed("assemble -o b - --onto c"), assembly("-", onto));
+        assert_eq!(
+            parsed("assemble -o b - --until 0x70 --onto c"),
+            assembly("-", onto)
+        );
     }
 
     #[test]
@@ -504,8 +527,11 @@ mod tests {
     #[test]
     fn wrong_lines_are_usage_errors() {
         let lines = "|walk|list|list a b|list -|list a --until|list a --until -1|list a --until 0x|\
+                     list a --until +6|list a --until 0x+6|list a --until 0x-6|list a --until 6a|\
+                     list a --until 0x6g|list a --until 18446744073709551616|\
                      list a --onto b|assemble a|assemble -o b|assemble a b -o c|assemble a -o|\
-                     assemble a -o -|assemble a -o b --onto|assemble a -o b --text|slot a|\
+                     assemble a -o -|assemble a -o b --onto|assemble a -o b --text|\
+                     assemble a -o b --onto c|assemble a -o b --until 112|slot a|slot a +1|\
                      slot a -1|slot a x|demo now|status a b|forget s|forget s x|forget s 0 --no|adopt s 0|adopt s|settle|settle r s|\
                      settle r --row r|mend|mend s 0";
         lines.split('|').for_each(is_wrong);

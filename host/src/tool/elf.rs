@@ -3,7 +3,7 @@
 use std::fmt;
 
 /// No recipe is taken for one: as an instruction these bytes are longer than 32 bits, and illegal.
-const MAGIC: &[u8] = b"\x7fELF";
+pub const MAGIC: &[u8] = b"\x7fELF";
 const HEADER: usize = 52;
 const PROGRAM_HEADER: usize = 32;
 

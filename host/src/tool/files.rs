@@ -121,11 +121,24 @@ pub enum Action {
     WriteAt(PathBuf, u64, Vec<u8>),
     /// Writes a row, in place where it is there.
     Burn(PathBuf, Box<Row>),
+    /// Gives a file the second name, which is free.
+    SetAside(PathBuf, PathBuf),
     Remove(PathBuf),
 }
 
 pub fn tmp(path: &Path) -> PathBuf {
     beside(path, ".tmp")
+}
+
+/// A free name for a file that is set aside: what was set aside before stays too.
+pub fn aside(path: &Path) -> PathBuf {
+    let mut to = beside(path, ".old");
+    let mut number = 2;
+    while to.symlink_metadata().is_ok() {
+        to = beside(path, &format!(".old{number}"));
+        number += 1;
+    }
+    to
 }
 
 /// The two steps that replace a file whole.
@@ -150,6 +163,9 @@ pub fn carry_out(actions: &[Action]) -> Result<(), Error> {
             Action::Burn(path, row) => {
                 row_file::burn(path, row)?;
                 continue;
+            }
+            Action::SetAside(path, to) => {
+                (path, fs::rename(path, to).and_then(|()| sync_folder(path)))
             }
             Action::Remove(path) => (path, fs::remove_file(path).and_then(|()| sync_folder(path))),
         };

@@ -1,7 +1,7 @@
 //! The help texts. The exit codes at the end of each come from the lists of what can go wrong.
 use super::error::{refusal_code, Kind};
 use super::show::{stop_code, stop_text};
-use phuyurik::Argument::{self, Bits, Memory, Output, Row, Slots, State, Text};
+use phuyurik::Argument::{self, Bits, Memory, Row, Slots, State, Text};
 use phuyurik::{Refusal, Stop};
 
 const COLUMNS: usize = 80;
@@ -223,28 +223,37 @@ Example:
 const ASSEMBLE: Help = Help {
     command: "assemble",
     about: "\
-Usage: phuyurik assemble TEXT -o IMAGE [--onto OLD]
+Usage: phuyurik assemble TEXT -o IMAGE [--onto OLD --until ADDRESS]
 
 Writes the instructions of TEXT, a file or - for standard input, to IMAGE, one
 after another. TEXT has one instruction in each line, exactly as phuyurik list
---text writes it, and a newline at the end of each. Numbers are decimal. A line
-with `c:` gives 2 bytes, any other 4. Offsets of branches and jumps are numbers
-of bytes: a line that gets another length moves what follows it.
+--text writes it, and a newline at the end of each; comments, directives and
+labels are not read. Numbers are decimal. A line with `c:` gives 2 bytes, any
+other 4. Offsets of branches and jumps are numbers of bytes: a line that gets
+another length moves what follows it.
 
 The first line at fault is told with its place, line and column from 1, and
-nothing is written. IMAGE may be neither TEXT, nor a row, nor a file of a run,
-nor the image of a run that is paused in its folder.
+nothing is written. IMAGE may be neither TEXT, nor an ELF file, nor a row, nor a
+file of a run, nor the image of a run that is paused in its folder. An empty
+TEXT is taken only from a file, without --onto, where nothing is replaced.
 
-  -o IMAGE    the file to write; one that is there is replaced whole
-  --onto OLD  the instructions replace the front of the image OLD, and what
-              follows there stays: data, for example. IMAGE may be OLD itself.
+  -o IMAGE         the file to write. One that is there with other bytes is kept
+                   as IMAGE.old, or IMAGE.old2 and so on where that is there.
+  --onto OLD       the instructions replace those of the image OLD before
+                   ADDRESS, and what follows there stays: data, for example.
+                   IMAGE may be OLD itself.
+  --until ADDRESS  as phuyurik list --text had it for OLD. TEXT has to give as
+                   many bytes: a line that has become shorter is made up for by
+                   c:addi x0,x0,0 after it, which does nothing and has 2.
 
 Example:
   phuyurik list --text trim.bin > night.s
   phuyurik assemble night.s -o night.bin
+  phuyurik list --text --until 0x70 voltage_trim.bin > night.s
+  phuyurik assemble night.s --onto voltage_trim.bin --until 0x70 -o night.bin
 ",
     does: Does::Writes,
-    lends: &[Memory, Text, Output],
+    lends: &[Memory, Bits, Text],
 };
 
 const ROW: Help = Help {

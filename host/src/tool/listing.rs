@@ -13,25 +13,23 @@ pub fn list(path: &Path, until: Option<usize>) -> Result<String, Error> {
 /// for what is none.
 pub fn text(path: &Path, until: Option<usize>) -> Result<String, Error> {
     let listed = Listed::of(path, until)?;
-    if listed.bytes.len() > LONGEST_MEMORY {
-        return Err(Error::Refused(path.to_path_buf(), Refusal::MemoryTooLong));
-    }
-    if let Some(none) = listed.lines().find(|line| line.text == "?") {
-        let why = format!(
-            "{} at 0x{}; --until ADDRESS lists only what lies before ADDRESS",
-            none.bits, none.address
-        );
-        let path = path.to_path_buf();
-        return Err(Error::RefusedFor(path, Refusal::NoInstruction, why));
-    }
+    listed.has_only_instructions(path)?;
     listed.tell_changes(path)?;
     Ok(listed.lines().map(|line| line.written()).collect())
 }
 
-/// The bytes that are listed, and their listing.
+/// What an image has from an address on, before which it has only what `text` lists.
+pub fn rest(path: &Path, from: usize) -> Result<Vec<u8>, Error> {
+    let listed = Listed::of(path, Some(from))?;
+    listed.has_only_instructions(path)?;
+    Ok(listed.rest)
+}
+
+/// The bytes that are listed, their listing, and the bytes that follow.
 struct Listed {
     bytes: Vec<u8>,
     listing: String,
+    rest: Vec<u8>,
 }
 
 /// A line of a listing.
@@ -65,18 +63,25 @@ impl Listed {
         let mut bytes = image::load(path, None)?.bytes;
         let whole = listing(&bytes)?;
         let Some(until) = until.filter(|_| bytes.len() <= LONGEST_MEMORY) else {
-            let listing = whole;
-            return Ok(Listed { bytes, listing });
+            return Ok(Listed {
+                bytes,
+                listing: whole,
+                rest: Vec::new(),
+            });
         };
         if until > bytes.len() {
             let (path, length) = (path.display(), bytes.len());
             let why = format!("--until {until}: {path} has only {length} bytes");
             return Err(Error::Usage(why));
         }
-        bytes.truncate(until);
+        let rest = bytes.split_off(until);
         let listing = listing(&bytes)?;
         match whole.starts_with(&listing) {
-            true => Ok(Listed { bytes, listing }),
+            true => Ok(Listed {
+                bytes,
+                listing,
+                rest,
+            }),
             // What is cut off is listed as something else.
             false => Err(Error::Usage(format!(
                 "--until {until}: an instruction begins before that address and ends after it"
@@ -94,6 +99,21 @@ impl Listed {
                 text,
             })
         })
+    }
+
+    fn has_only_instructions(&self, path: &Path) -> Result<(), Error> {
+        let path = path.to_path_buf();
+        if self.bytes.len() > LONGEST_MEMORY {
+            return Err(Error::Refused(path, Refusal::MemoryTooLong));
+        }
+        let Some(none) = self.lines().find(|line| line.text == "?") else {
+            return Ok(());
+        };
+        let why = format!(
+            "{} at 0x{}; --until ADDRESS takes only what lies before ADDRESS",
+            none.bits, none.address
+        );
+        Err(Error::RefusedFor(path, Refusal::NoInstruction, why))
     }
 
     /// Data that looks like instructions must not change unseen.

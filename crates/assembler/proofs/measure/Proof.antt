@@ -8,7 +8,7 @@ use Prim.Native.Nat.{_-_, _≤_}
 use lib.ListN.{length, drop}
 use Rattle.assembly.specs.Assembly.{assembled}
 use Rattle.assembler.specs.Passes.{measured}
-use Rattle.assembler.proofs.Passes.{Step, word-step, half-step, fault-here, measures-on, measures-fault, measures-end}
+use Rattle.assembler.proofs.Passes.{Step, step-here, fault-here, measures-on, measures-fault, measures-end}
 use Rattle.assembler.proofs.measure.Statement.{statement}
 use Rattle.assembler.proofs.measure.Tie as tie
 
@@ -22,19 +22,12 @@ loop-holds : tie.Need-loop-holds Inv-loop μ-loop
 loop-holds c = (refl, omega arith, omega arith, omega arith)
 
 -- the line that was coded
-stepped : (c : tie.After-end Inv-loop μ-loop) → Step (now (c .before .before .before .before .before .before .before .args .text)) (c .before .before .before .before .before .loop .at) 4 (c .end .given .0 .0) (c .end .given .0 .1 .0)
+stepped : (c : tie.After-size Inv-loop μ-loop) → let g = c .size .given .0 in Step (now (c .before .before .before .before .before .before .before .args .text)) (c .before .before .before .before .before .loop .at) (g .1 .0) (g .0) (g .1 .1 .0)
 stepped c =
     let l = c .before .before .before .before .before .loop in
     let k = c .before .before .code-line in
-    let g = c .end .given in
-    word-step (now (c .before .before .before .before .before .before .before .args .text)) (l .at) (k .result) (omega arith) (k .ensures) (g .0 .0) (g .0 .1 .0) (g .1)
-
-stepped-2 : (c : tie.After-end2 Inv-loop μ-loop) → Step (now (c .before .before .before .before .before .before .before .args .text)) (c .before .before .before .before .before .loop .at) 2 (c .end2 .given .0 .0) (c .end2 .given .0 .1 .0)
-stepped-2 c =
-    let l = c .before .before .before .before .before .loop in
-    let k = c .before .before .code-line in
-    let g = c .end2 .given in
-    half-step (now (c .before .before .before .before .before .before .before .args .text)) (l .at) (k .result) (omega arith) (k .ensures) (g .0 .0) (g .0 .1 .0) (g .1)
+    let g = c .size .given in
+    step-here (now (c .before .before .before .before .before .before .before .args .text)) (l .at) (k .result) (omega arith) (k .ensures) (g .0 .0) (g .0 .1 .0) (g .0 .1 .1 .0) (g .1)
 
 loop-again : tie.Need-loop-again Inv-loop μ-loop
 loop-again c =
@@ -42,17 +35,7 @@ loop-again c =
     let s = stepped (c .before) in (
       sym (measures-on (now (c .before .before .before .before .before .before .before .before .args .text)) (l .at) (l .length) (l .line) s) ∙ l .inv .0,
       s .within,
-      omega (arith, s .long, l .inv .2),
-      omega (arith, s .long, l .inv .3),
-    )
-
-loop-again-2 : tie.Need-loop-again-2 Inv-loop μ-loop
-loop-again-2 c =
-    let l = c .before .before .before .before .before .before .loop in
-    let s = stepped-2 (c .before) in (
-      sym (measures-on (now (c .before .before .before .before .before .before .before .before .args .text)) (l .at) (l .length) (l .line) s) ∙ l .inv .0,
-      s .within,
-      omega (arith, s .long, l .inv .2),
+      omega (arith, s .long, s .some, l .inv .2),
       omega (arith, s .long, l .inv .3),
     )
 
@@ -83,16 +66,10 @@ measure-spec =
     (λ c κs. search needs)
     (λ c. search needs)
     (λ c. omega (arith, stepped (c .before) .within))
-    (λ c. omega (arith, stepped (c .before) .long, stepped (c .before) .within))
-    (λ c. omega (arith, stepped (c .before) .long, stepped (c .before) .within))
-    (λ c. omega (arith, stepped (c .before) .long, stepped (c .before) .within))
+    (λ c. let s = stepped (c .before) in omega (arith, s .some, s .long, s .within))
+    (λ c. let s = stepped (c .before) in omega (arith, s .long, s .within))
+    (λ c. let s = stepped (c .before) in omega (arith, s .some, s .long, s .within))
     loop-again
-    (λ c. search needs)
-    (λ c. omega (arith, stepped-2 (c .before) .within))
-    (λ c. omega (arith, stepped-2 (c .before) .long, stepped-2 (c .before) .within))
-    (λ c. omega (arith, stepped-2 (c .before) .long, stepped-2 (c .before) .within))
-    (λ c. omega (arith, stepped-2 (c .before) .long, stepped-2 (c .before) .within))
-    loop-again-2
     (λ c. search needs)
     returns
     returns-2)

@@ -5,7 +5,7 @@ use denote.Ref.{now}
 use native.Mathlib.Omega.{arith}
 use Prim.Native.Nat.{_-_, _≤_}
 use lib.ListN.{length}
-use Rattle.assembler.proofs.Passes.{Step, word-step, half-step, fault-here, Left, left-all, fits-here, left-after, left-none, left-fault}
+use Rattle.assembler.proofs.Passes.{Step, step-here, fault-here, Left, left-all, fits-here, left-after, left-none, left-fault}
 use Rattle.assembler.proofs.write_lines.Statement.{statement}
 use Rattle.assembler.proofs.write_lines.Tie as tie
 
@@ -19,45 +19,26 @@ loop-holds : tie.Need-loop-holds Inv-loop μ-loop
 loop-holds c = (omega arith, left-all (now (c .before .before .args .text)) (now (c .before .before .args .room)) (c .before .before .pre))
 
 -- the line that was coded
-stepped : (c : tie.After-word Inv-loop μ-loop) → Step (now (c .before .before .before .before .before .before .before .before .args .text)) (c .before .before .before .before .before .loop .at) 4 (c .word .given .0 .0) (c .word .given .0 .1 .0)
+stepped : (c : tie.After-bits Inv-loop μ-loop) → let g = c .bits .given .0 in Step (now (c .before .before .before .before .before .before .before .before .args .text)) (c .before .before .before .before .before .loop .at) (g .1 .0) (g .0) (g .1 .1 .0)
 stepped c =
     let l = c .before .before .before .before .before .loop in
     let k = c .before .before .code-line in
-    let g = c .word .given in
-    word-step (now (c .before .before .before .before .before .before .before .before .args .text)) (l .at) (k .result) (omega arith) (k .ensures) (g .0 .0) (g .0 .1 .0) (g .1)
+    let g = c .bits .given in
+    step-here (now (c .before .before .before .before .before .before .before .before .args .text)) (l .at) (k .result) (omega arith) (k .ensures) (g .0 .0) (g .0 .1 .0) (g .0 .1 .1 .0) (g .1)
 
-stepped-2 : (c : tie.After-half Inv-loop μ-loop) → Step (now (c .before .before .before .before .before .before .before .before .args .text)) (c .before .before .before .before .before .loop .at) 2 (c .half .given .0 .0) (c .half .given .0 .1 .0)
-stepped-2 c =
-    let l = c .before .before .before .before .before .loop in
-    let k = c .before .before .code-line in
-    let g = c .half .given in
-    half-step (now (c .before .before .before .before .before .before .before .before .args .text)) (l .at) (k .result) (omega arith) (k .ensures) (g .0 .0) (g .0 .1 .0) (g .1)
-
-store4-requires : tie.Need-store4-requires Inv-loop μ-loop
-store4-requires c κs =
+store-code-requires : tie.Need-store-code-requires Inv-loop μ-loop
+store-code-requires c κs =
     let l = c .before .before .before .before .before .before .before .loop in
     let a = c .before .before .before .before .before .before .before .before .before .before .args in
-    fits-here (now (a .text)) (now (a .room)) (l .room) (l .at) (l .length) (l .inv .1) (stepped (c .before .before))
+    let s = stepped (c .before .before) in
+    (s .sized, fits-here (now (a .text)) (now (a .room)) (l .room) (l .at) (l .length) (l .inv .1) s)
 
 loop-again : tie.Need-loop-again Inv-loop μ-loop
 loop-again c =
     let l = c .before .before .before .before .before .before .before .before .before .before .loop in
     let a = c .before .before .before .before .before .before .before .before .before .before .before .before .before .args in
     let s = stepped (c .before .before .before .before .before) in
-    (s .within, left-after (now (a .text)) (now (a .room)) (l .room) (l .at) (l .length) (l .inv .1) _ s (c .before .before .store4 .ensures))
-
-store2-requires : tie.Need-store2-requires Inv-loop μ-loop
-store2-requires c κs =
-    let l = c .before .before .before .before .before .before .before .loop in
-    let a = c .before .before .before .before .before .before .before .before .before .before .args in
-    fits-here (now (a .text)) (now (a .room)) (l .room) (l .at) (l .length) (l .inv .1) (stepped-2 (c .before .before))
-
-loop-again-2 : tie.Need-loop-again-2 Inv-loop μ-loop
-loop-again-2 c =
-    let l = c .before .before .before .before .before .before .before .before .before .before .loop in
-    let a = c .before .before .before .before .before .before .before .before .before .before .before .before .before .args in
-    let s = stepped-2 (c .before .before .before .before .before) in
-    (s .within, left-after (now (a .text)) (now (a .room)) (l .room) (l .at) (l .length) (l .inv .1) _ s (c .before .before .store2 .ensures))
+    (s .within, left-after (now (a .text)) (now (a .room)) (l .room) (l .at) (l .length) (l .inv .1) _ s (c .before .before .store-code .ensures))
 
 returns : tie.Need-returns Inv-loop μ-loop
 returns c =
@@ -86,17 +67,11 @@ write-lines-spec =
     (λ c. search needs)
     (λ c κs. search needs)
     (λ c. search needs)
-    store4-requires
+    store-code-requires
     (λ c. omega (arith, stepped (c .before .before .before .before .before) .within))
     (λ c. omega (arith, fits-here _ _ _ _ _ (c .before .before .before .before .before .before .before .before .before .before .loop .inv .1) (stepped (c .before .before .before .before .before))))
-    (λ c. omega (arith, stepped (c .before .before .before .before .before) .within, stepped (c .before .before .before .before .before) .long))
+    (λ c. let s = stepped (c .before .before .before .before .before) in omega (arith, s .some, s .within, s .long))
     loop-again
-    (λ c. search needs)
-    store2-requires
-    (λ c. omega (arith, stepped-2 (c .before .before .before .before .before) .within))
-    (λ c. omega (arith, fits-here _ _ _ _ _ (c .before .before .before .before .before .before .before .before .before .before .loop .inv .1) (stepped-2 (c .before .before .before .before .before))))
-    (λ c. omega (arith, stepped-2 (c .before .before .before .before .before) .within, stepped-2 (c .before .before .before .before .before) .long))
-    loop-again-2
     (λ c. search needs)
     (λ c. search needs)
     returns

@@ -1,24 +1,21 @@
 -- `assembly_io::assemble_from` is safe: what was said lies in the room. Assumes nothing.
-use mathlib.Core.Path.{sym}
+use mathlib.Core.Path.{sym, ap}
 use borrow.Author.Needs.{needs}
 use native.Mathlib.Omega.{arith}
 use Prim.Native.Nat.{_≤_}
 use lib.Seq.{length-take-le}
-use Rattle.assembly_io.proofs.Saying.{output-within, error-within}
+use Rattle.assembly_io.proofs.Saying.{size, said-short}
 use Rattle.assembly_io.proofs.assemble_from.Statement.{statement}
 use Rattle.assembly_io.proofs.assemble_from.Tie as tie
 
+said-fits : (c : tie.After-say) → size (c .say .result) ≤ 65536
+said-fits c = said-short _ _ (c .say .result) _ (c .say .ensures)
+
 fits : (c : tie.After-known-told) → c .before .length .given .0 .0 ≤ 65536
-fits c =
-    let k = c .before .before .before .before .say in
-    let g = c .before .length .given in
-    output-within 65536 (k .result) (g .0 .0) (rw (← c .before .before .before .before .before .before .before .large-buffer .ensures) at (k .ensures .1)) (g .1)
+fits c = omega (arith, said-fits (c .before .before .before .before), ap size (c .before .length .given .1))
 
 fits-2 : (c : tie.After-known-told2) → c .before .length2 .given .0 .0 ≤ 65536
-fits-2 c =
-    let k = c .before .before .before .before .say in
-    let g = c .before .length2 .given in
-    error-within 65536 (k .result) (g .0 .0) (rw (← c .before .before .before .before .before .before .before .large-buffer .ensures) at (k .ensures .1)) (g .1)
+fits-2 c = omega (arith, said-fits (c .before .before .before .before), ap size (c .before .length2 .given .1))
 
 array-share-prefix-room : tie.Need-array-share-prefix-room
 array-share-prefix-room c = omega (arith, fits c)

@@ -15,4 +15,4 @@ returns-3 c = rw (← c .before .before .shorten .ensures, c .enum-told2 .given 
 pub half-of-spec : {M : Type 1} → statement M
 half-of-spec =
     tie.close
-    (tie.spec (λ c κs. search needs) (λ c. search needs) (λ c. search needs) (λ c. search needs) returns returns-2 returns-3)
+    (tie.spec (λ c κs. search needs) (λ c. search needs) (λ c. search needs) (λ c. search needs) (λ c. search needs) returns returns-2 returns-3)

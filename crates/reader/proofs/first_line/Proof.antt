@@ -1,54 +1,30 @@
--- `reader::first_line` meets its contract: a line without c:, no c: in front, a line with it, or neither. Assumes nothing.
-use mathlib.Core.Path.{_≡_, sym, ap, _∙_}
+-- `reader::first_line` meets its contract: a guess that reads the line is right, and another changes nothing. Assumes nothing.
 use native.Mathlib.Omega.{arith}
+use mathlib.Core.Path.{sym, _∙_}
 use denote.Ref.{now}
-use Rattle.reader.specs.declared.Line.the-variants.{Unreadable}
-use Rattle.reader.specs.Line.{furthest}
-use Rattle.reader.proofs.Choosing.{long-first, no-colon, colon-first, prefix-most}
+use Rattle.reader.proofs.Guessing.{front-most, guessed}
 use borrow.Author.Needs.{needs}
 use Rattle.reader.proofs.first_line.Statement.{statement}
 use Rattle.reader.proofs.first_line.Tie as tie
 
+mul-from : tie.Need-mul-from
+mul-from c = omega (arith, front-most (now (c .before .before .args .text)) (c .prefix .result) (c .prefix .ensures) .0)
+
+sub-guess : tie.Need-sub-guess
+sub-guess c = front-most (now (c .before .before .args .text)) (c .prefix .result) (c .prefix .ensures) .1
+
+part-guess-start : tie.Need-part-guess-start
+part-guess-start c = front-most (now (c .before .before .args .text)) (c .prefix .result) (c .prefix .ensures) .1
+
+follow-requires : tie.Need-follow-requires
+follow-requires c κs = (front-most (now (c .before .before .before .before .args .text)) (c .before .before .prefix .result) (c .before .before .prefix .ensures) .1, c .guess .ensures)
+
 returns : tie.Need-returns
 returns c =
-    let g = c .enum-told .given in
-    long-first (now (c .before .before .before .before .args .text)) (c .before .before .among .result) (c .before .before .among .ensures) (g .0 .0) (g .0 .1 .0) (g .0 .1 .1 .0) (g .0 .1 .1 .1 .0) (g .1)
-
-returns-2 : tie.Need-returns-2
-returns-2 c =
-    let s = now (c .before .before .before .before .before .before .before .before .args .text) in
-    let g = c .before .before .before .before .long .given in
-    let n = c .before .before .prefix in
-    no-colon s (g .0 .0) (sym (g .1) ∙ c .before .before .before .before .before .before .among .ensures) (n .result) (n .ensures) (omega arith) (c .larger .result) (c .larger .ensures)
-
-among-requires-2 : tie.Need-among-requires-2
-among-requires-2 c κs =
-    let m = prefix-most (now (c .before .before .before .before .before .before .before .args .text)) in
-    omega (arith, c .before .prefix .ensures)
-
-returns-3 : tie.Need-returns-3
-returns-3 c =
-    let s = now (c .before .before .before .before .before .before .before .before .before .before .args .text) in
-    let g = c .before .before .before .before .before .before .long .given in
-    let n = c .before .before .before .before .prefix in
-    let m = prefix-most s in
-    let q : n .result ≡ 2 = omega (arith, n .ensures) in
-    let o = c .before .before .among2 in
-    let w = colon-first s (g .0 .0) (sym (g .1) ∙ c .before .before .before .before .before .before .before .before .among .ensures) (n .result) (n .ensures) q (o .result) (o .ensures) in
-    let h = c .enum-told2 .given in
-    h .1 ∙ sym (ap (furthest (Unreadable (g .0 .0))) (h .1)) ∙ w
-
-returns-4 : tie.Need-returns-4
-returns-4 c =
-    let s = now (c .before .before .before .before .before .before .before .before .before .before .before .before .args .text) in
-    let g = c .before .before .before .before .before .before .before .before .long .given in
-    let n = c .before .before .before .before .before .before .prefix in
-    let m = prefix-most s in
-    let q : n .result ≡ 2 = omega (arith, n .ensures) in
-    let o = c .before .before .before .before .among2 in
-    let w = colon-first s (g .0 .0) (sym (g .1) ∙ c .before .before .before .before .before .before .before .before .before .before .among .ensures) (n .result) (n .ensures) q (o .result) (o .ensures) in
-    let h = c .before .before .short .given in
-    ap Unreadable (c .larger2 .ensures) ∙ sym (ap (furthest (Unreadable (g .0 .0))) (h .1)) ∙ w
+    let p = c .before .before .before .before .before .before .prefix in
+    let k = c .before .before .before .before .guess in
+    let g = c .before .n .given in
+    guessed (now (c .before .before .before .before .before .before .before .before .args .text)) (p .result) (p .ensures) (k .result) (k .ensures) (g .0 .0) (g .0 .1 .0) (sym (g .1) ∙ c .before .before .before .follow .ensures)
 
 pub first-line-spec : {M : Type 1} → statement M
 first-line-spec =
@@ -56,14 +32,14 @@ first-line-spec =
     (tie.spec
     (λ c κs. search needs)
     (λ c. search needs)
+    mul-from
+    sub-guess
+    part-guess-start
     (λ c. search needs)
+    (λ c κs. search needs)
+    follow-requires
+    (λ c. search needs)
+    (λ c. search needs)
+    (λ c κs. search needs)
     returns
-    (λ c κs. search needs)
-    (λ c κs. search needs)
-    returns-2
-    among-requires-2
-    (λ c. search needs)
-    (λ c. search needs)
-    returns-3
-    (λ c κs. search needs)
-    returns-4)
+    (λ c. search needs))

@@ -1,5 +1,6 @@
 //! A line that was refused, told as compilers do: the place, what is wrong, the line, and a caret
 //! under the byte; then what may help.
+use super::{allowed, unreadable};
 use phuyurik::Refusal;
 
 /// So much of a line is shown on each side of the caret, in columns.
@@ -18,88 +19,20 @@ impl Fault {
     pub fn told(&self, name: &str, text: &[u8]) -> String {
         let mut lines = text.split(|byte| *byte == b'\n');
         let line = lines.nth(self.line).unwrap_or_default();
+        let has_newline = lines.next().is_some();
         let (line_number, column) = (self.line + 1, self.byte + 1);
         let (number, words) = (self.refusal.number(), self.refusal.words());
         let mut told = format!("{name}:{line_number}:{column}: {number} {words}\n");
         told += &pointed_at(line, self.byte);
-        if let Some(note) = self.note(line) {
-            told += &format!("note: {note}\n");
-        }
-        told
-    }
-
-    fn note(&self, line: &[u8]) -> Option<String> {
-        match (self.refusal, &line[self.byte..]) {
-            (Refusal::Unreadable, _) => Some(unreadable(line, self.byte)),
-            (Refusal::NumberNotAllowed, [b'-', b'0', ..] | [b'0', b'0'..=b'9', ..]) => {
-                Some("no number begins with a zero, but for 0 itself, which has no minus".into())
+        let note = match self.refusal {
+            Refusal::Unreadable => unreadable::note(line, self.byte, has_newline),
+            Refusal::NumberNotAllowed => allowed::note(line, self.byte),
+            Refusal::NoShortLine => {
+                "without `c:` it has 4 bytes instead of 2, and what follows moves".to_string()
             }
-            (Refusal::NoShortLine, _) => {
-                Some("without `c:` it has 4 bytes instead of 2, and what follows moves".into())
-            }
-            _ => None,
-        }
-    }
-}
-
-fn unreadable(line: &[u8], byte: usize) -> String {
-    let (front, rest) = line.split_at(byte);
-    match rest {
-        // A newline that could stand there does not: the text is over.
-        [] if can_follow(front, b'\n') => "the last line has no newline at its end".to_string(),
-        [] if front.is_empty() => "an empty line: every line has an instruction".to_string(),
-        [] => format!("the line ends early: expected {}", expected(front)),
-        b"\r" => "the line ends with CR LF: leave every CR out, as tr -d '\\r' does".to_string(),
-        _ if is_listed(line) => {
-            "with address and bits, as `phuyurik list` has it: `phuyurik list --text` leaves them out"
-                .to_string()
-        }
-        _ => format!("expected {}", expected(front)),
-    }
-}
-
-/// Whether an address and bits stand in front.
-fn is_listed(line: &[u8]) -> bool {
-    let is_hex = |field: &[u8]| field.iter().all(u8::is_ascii_hexdigit);
-    let fields: Vec<&[u8]> = line.splitn(3, |byte| *byte == b' ').collect();
-    match fields[..] {
-        [address, bits, _] => address.len() == 8 && is_hex(address) && is_hex(bits),
-        _ => false,
-    }
-}
-
-/// Whether a readable line may go on so: the library is asked.
-fn can_follow(front: &[u8], next: u8) -> bool {
-    let is_at_next = |error: phuyurik::Error| match error {
-        phuyurik::Error::Line { refusal, byte, .. } => {
-            refusal == Refusal::Unreadable && byte == front.len()
-        }
-        _ => false,
-    };
-    !phuyurik::assemble(&[front, &[next]].concat()).is_err_and(is_at_next)
-}
-
-/// What a readable line may go on with, in words.
-fn expected(front: &[u8]) -> String {
-    if front.is_empty() {
-        return "an instruction, such as `addi x5,x0,7`".to_string();
-    }
-    let word = |byte: u8| match byte {
-        b'\n' => Some("the line's end".to_string()),
-        b' ' => Some("a space".to_string()),
-        b'0' => Some("a digit".to_string()),
-        b'1'..=b'9' => None,
-        _ => Some(format!("`{}`", char::from(byte))),
-    };
-    let bytes = (b' '..=b'~').chain([b'\n']);
-    let words: Vec<String> = bytes
-        .filter(|byte| can_follow(front, *byte))
-        .filter_map(word)
-        .collect();
-    match words.split_last() {
-        Some((last, [])) => last.clone(),
-        Some((last, others)) => format!("{} or {last}", others.join(", ")),
-        None => "nothing".to_string(),
+            _ => return told,
+        };
+        told + &format!("note: {note}\n")
     }
 }
 
@@ -167,7 +100,11 @@ mod tests {
         is_told(
             b"ecall\nsw x5,0(x6)\naddi x5,x0,99999\n",
             "3:12: 11 a number or offset not allowed",
-            &["addi x5,x0,99999", "           ^"],
+            &[
+                "addi x5,x0,99999",
+                "           ^",
+                "note: numbers from -2048 to 2047 are allowed here",
+            ],
         );
         is_told(
             b"c:addi x5,x6,7\n",
@@ -178,22 +115,6 @@ mod tests {
                 "note: without `c:` it has 4 bytes instead of 2, and what follows moves",
             ],
         );
-    }
-
-    #[test]
-    fn a_number_that_is_only_written_wrong_has_a_note() {
-        let note = "note: no number begins with a zero, but for 0 itself, which has no minus";
-        for number in ["007", "-0", "-07", "00"] {
-            let text = format!("addi x5,x0,{number}\n");
-            assert!(
-                told(text.as_bytes()).ends_with(&format!("^\n{note}\n")),
-                "{text}"
-            );
-        }
-        for number in ["2048", "-2049", "99999999999999999999"] {
-            let text = format!("addi x5,x0,{number}\n");
-            assert!(told(text.as_bytes()).ends_with("^\n"), "{text}");
-        }
     }
 
     /// What stands after the caret's line, for a text of one line that is unreadable at this column.
@@ -208,8 +129,6 @@ mod tests {
     fn what_is_expected_is_said() {
         let an_instruction = "expected an instruction, such as `addi x5,x0,7`";
         is_noted(b"nop\n", 1, an_instruction);
-        is_noted(b" ecall\n", 1, an_instruction);
-        is_noted(b"  ecall\n", 1, an_instruction);
         is_noted(b"li x5,7\n", 2, "expected `b`, `h`, `u` or `w`");
         is_noted(b"addi t0,x0,7\n", 6, "expected `x`");
         is_noted(b"addi x5, x0,7\n", 9, "expected `x`");
@@ -220,7 +139,9 @@ mod tests {
         );
         is_noted(b"addi x5,x0,x7\n", 12, "expected `-` or a digit");
         is_noted(b"addi\tx5,x0,7\n", 5, "expected a space");
-        is_noted(b"ecall # done\n", 6, "expected the line's end");
+        is_noted(b"ecall done\n", 6, "expected the line's end");
+        let letters = "`a`, `b`, `d`, `e`, `f`, `j`, `l`, `m`, `o`, `r`, `s` or `x`";
+        is_noted(b"c: ebreak\n", 3, &format!("expected {letters}"));
     }
 
     #[test]
@@ -249,6 +170,42 @@ mod tests {
                       leaves them out";
         is_noted(b"00000000 429d c:addi x5,x0,7\n", 1, listed);
         is_noted(b"0000000a 00000073 ecall\n", 1, listed);
+    }
+
+    #[test]
+    fn what_editors_write_besides_the_text_is_named() {
+        let mark = "a byte order mark: save the text without one, as plain ASCII";
+        is_noted(b"\xEF\xBB\xBFecall\n", 1, mark);
+        let utf_16 = "a text in UTF-16, as it seems: save it as plain ASCII";
+        is_noted(b"\xFF\xFEe\0c\0a\0l\0l\0\n\0", 1, utf_16);
+        is_noted(b"\xFE\xFF\0e\0c\0a\0l\0l\0\n", 1, utf_16);
+        is_noted(b"e\0c\0a\0l\0l\0\n\0", 2, utf_16);
+        is_noted(b"\0e\0c\0a\0l\0l\0\n", 1, utf_16);
+        let cr = "a CR without a newline: every line ends with a newline alone";
+        is_noted(b"ecall\r", 6, cr);
+        is_noted(b"ecall\recall\r", 6, cr);
+        is_noted(b"ecall\recall\n", 6, cr);
+    }
+
+    #[test]
+    fn what_only_other_assemblers_read_is_named() {
+        let note = "comments, directives, labels and blanks in front are not read: the lines are \
+                    those of `phuyurik list --text`";
+        for (text, column) in [
+            ("# The paper's recipe", 1),
+            ("        .equ    STEP, 3", 1),
+            (".equ STEP, 3", 1),
+            ("next:", 1),
+            ("next:   lhu x5,0(x6)", 1),
+            ("add:", 4),
+            ("\tecall", 1),
+            (" ecall", 1),
+            ("ecall # done", 6),
+            ("ecall; done", 6),
+            ("addi x5,x0,7 // seven", 13),
+        ] {
+            is_noted(format!("{text}\n").as_bytes(), column, note);
+        }
     }
 
     #[test]

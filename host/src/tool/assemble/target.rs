@@ -1,6 +1,8 @@
-//! The file that an image is written to. A slip must not cost a text, a part's row or a run.
+//! The file that an image is written to. A slip must not cost a text, a part's row, a run or the only
+//! copy of a recipe.
+use super::super::elf;
 use super::super::error::{Error, Kind};
-use super::super::files;
+use super::super::files::{self, Action};
 use super::super::image;
 use super::super::journal::ImageMark;
 use super::super::row_file;
@@ -8,43 +10,72 @@ use super::super::status::found::{self, Found};
 use super::super::ways::typed;
 use std::fs::{self, Metadata};
 use std::os::unix::fs::MetadataExt;
-use std::path::Path;
+use std::path::{Path, PathBuf};
 
-/// The length of what the image will replace, if that may be. An empty text is likely one that the
-/// command before a pipe could not write.
-pub fn length_before(path: &Path, image: &[u8]) -> Result<u64, Error> {
-    if path.symlink_metadata().is_err() {
-        return Ok(0);
-    }
-    let length = files::may_be_written(path)?.len();
-    match image.is_empty() && length > 0 {
-        true => Err(Error::file(path, "kept, for the text is empty")),
-        false => Ok(length),
-    }
+pub struct Target {
+    /// Canonical.
+    pub path: PathBuf,
+    /// The length of what is there, if anything is.
+    pub before: Option<u64>,
 }
 
-/// That nothing else needs the file of this path, which is canonical, nor its `.tmp`, which is written
-/// on the way.
-pub fn is_free(path: &Path, text: &Metadata, onto: Option<&Path>) -> Result<(), Error> {
-    let tmp = files::tmp(path);
-    let old = onto.and_then(|old| fs::metadata(old).ok());
-    let (text, old) = (("TEXT", Some(text)), ("OLD", old.as_ref()));
-    for ((what, source), target) in [(text, path), (text, &tmp), (old, &tmp)] {
-        if source.is_some_and(|source| is_same(source, target)) {
-            let (image, target) = (typed::name(path), typed::name(target));
-            let why = format!("-o {image}: {what} must be another file than {target}");
-            return Err(Error::Usage(why));
+impl Target {
+    /// The file of this name, if it may be written.
+    pub fn of(image: &Path) -> Result<Target, Error> {
+        let path = files::canonical(image)?;
+        if path.symlink_metadata().is_err() {
+            return Ok(Target { path, before: None });
+        }
+        let before = Some(files::may_be_written(&path)?.len());
+        match elf::is_elf(&files::read(&path, elf::MAGIC.len())?) {
+            true => Err(Error::file(
+                &path,
+                "an ELF file, and the bytes alone would replace it: give another name after -o",
+            )),
+            false => Ok(Target { path, before }),
         }
     }
-    let folder = path.parent().expect("the path is canonical, of a file");
-    let found = Found::in_folder(folder)?;
-    for target in [path, &tmp] {
-        if let Some(what) = use_of(target, &found) {
-            let why = format!("{what}: give another name after -o");
-            return Err(Error::of(Kind::OtherRun, target, why));
+
+    /// That nothing else needs this file, nor its `.tmp`, which is written on the way.
+    pub fn is_free(&self, text: &Metadata, onto: Option<&Path>) -> Result<(), Error> {
+        let path = &*self.path;
+        let tmp = files::tmp(path);
+        let old = onto.and_then(|old| fs::metadata(old).ok());
+        let (text, old) = (("TEXT", Some(text)), ("OLD", old.as_ref()));
+        for ((what, source), target) in [(text, path), (text, &tmp), (old, &tmp)] {
+            if source.is_some_and(|source| is_same(source, target)) {
+                let (image, target) = (typed::name(path), typed::name(target));
+                let why = format!("-o {image}: {what} must be another file than {target}");
+                return Err(Error::Usage(why));
+            }
         }
+        let folder = path.parent().expect("the path is canonical, of a file");
+        let found = Found::in_folder(folder)?;
+        for target in [path, &tmp] {
+            if let Some(what) = use_of(target, &found) {
+                let why = format!("{what}: give another name after -o");
+                return Err(Error::of(Kind::OtherRun, target, why));
+            }
+        }
+        Ok(())
     }
-    Ok(())
+
+    /// Writes the image. What is there, if it is other, is set aside under the name that is given
+    /// back: a run may be paused with it whose files are in another folder.
+    pub fn write(&self, image: Vec<u8>) -> Result<Option<PathBuf>, Error> {
+        let is_other = match self.before {
+            Some(_) => files::read(&self.path, image.len() + 1)? != image,
+            None => false,
+        };
+        let aside = is_other.then(|| files::aside(&self.path));
+        let [write_tmp, put_in_place] = files::replacing(&self.path, image);
+        let mut actions = vec![write_tmp];
+        let set_aside = |to: &PathBuf| Action::SetAside(self.path.clone(), to.clone());
+        actions.extend(aside.iter().map(set_aside));
+        actions.push(put_in_place);
+        files::carry_out(&actions)?;
+        Ok(aside)
+    }
 }
 
 fn is_same(source: &Metadata, target: &Path) -> bool {

@@ -5,17 +5,12 @@ use super::super::journal::{self, Moment};
 use super::super::Answer;
 use super::typed;
 use std::collections::BTreeSet;
-use std::fs::{self, File};
 use std::path::{Path, PathBuf};
 
 /// A step of a plan. A kill leaves a front part of the steps done; the same command does the rest.
 pub enum Step {
     Act(Action),
     Grow(PathBuf, u64),
-    SetAside {
-        from: PathBuf,
-        to: PathBuf,
-    },
     Settle(Box<Moment>),
     /// The slot's lock file remembers this row.
     Remember(PathBuf),
@@ -91,21 +86,14 @@ impl Plan {
         self.steps.extend(actions.into_iter().map(Step::Act));
     }
 
-    /// Sets a file aside under a name that is free: what was set aside before stays too.
     pub fn set_aside(&mut self, from: &Path) {
-        let mut to = files::beside(from, ".old");
-        let mut number = 2;
-        while to.symlink_metadata().is_ok() {
-            to = files::beside(from, &format!(".old{number}"));
-            number += 1;
-        }
+        let to = files::aside(from);
         self.say(format!(
             "{} is set aside as {}",
             typed::name(from),
             typed::name(&to)
         ));
-        let from = from.to_path_buf();
-        self.step(Step::SetAside { from, to });
+        self.act([Action::SetAside(from.to_path_buf(), to)]);
     }
 
     /// Whether nothing is to be done.
@@ -126,7 +114,6 @@ impl Plan {
             match step {
                 Step::Act(action) => files::carry_out(&[action])?,
                 Step::Grow(path, length) => files::grow(&path, length)?,
-                Step::SetAside { from, to } => rename(&from, &to)?,
                 Step::Settle(save) => save.settle()?,
                 Step::Remember(row) => {
                     if let Some(lock) = &mut held.slot {
@@ -137,12 +124,6 @@ impl Plan {
         }
         Ok(())
     }
-}
-
-fn rename(from: &Path, to: &Path) -> Result<(), Error> {
-    let folder = from.parent().expect("the path is canonical, of a file");
-    let done = fs::rename(from, to).and_then(|()| File::open(folder)?.sync_all());
-    done.map_err(|why| files::failed(from, why))
 }
 
 /// Tells what a plan will do, or does it. It is made again once the locks are held: what it was
