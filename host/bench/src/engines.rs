@@ -1,6 +1,6 @@
 //! The three engines, made to look alike: an image in, the end of its run and the time out.
 use crate::plain;
-use crate::stopwatch::Stopwatch;
+use crate::stopwatch::{of_this_program, timed};
 use phuyurik::{Board, State};
 use std::time::Duration;
 
@@ -54,29 +54,23 @@ pub fn run(engine: Engine, image: &[u8]) -> (End, Duration) {
     (end, time)
 }
 
-fn timed<T>(work: impl FnOnce() -> T) -> (T, Duration) {
-    let watch = Stopwatch::start();
-    let answer = work();
-    (answer, watch.time())
-}
-
 fn run_phuyurik(memory: &mut [u8], row: &mut [u8]) -> (State, u64, Duration) {
     let mut s = State::fresh();
     let mut board = Board::new(memory, row);
-    let (retired, time) = timed(|| board.run(&mut s, BUDGET));
+    let (retired, time) = timed(of_this_program, || board.run(&mut s, BUDGET));
     (s, retired.expect("sound arguments"), time)
 }
 
 fn run_second(memory: &mut [u8], row: &mut [u8]) -> (State, u64, Duration) {
     let mut s = second::State::fresh();
-    let (retired, time) = timed(|| second::run(&mut s, memory, row, BUDGET));
+    let (retired, time) = timed(of_this_program, || second::run(&mut s, memory, row, BUDGET));
     let state = state(s.pc, &s.x, s.count, s.stop);
     (state, retired.expect("sound arguments"), time)
 }
 
 fn run_plain(memory: &mut [u8], row: &mut [u8]) -> (State, u64, Duration) {
     let mut s = plain::State::fresh();
-    let (retired, time) = timed(|| plain::run(&mut s, memory, row, BUDGET));
+    let (retired, time) = timed(of_this_program, || plain::run(&mut s, memory, row, BUDGET));
     (state(s.pc, &s.x[1..], s.count, s.stop), retired, time)
 }
 

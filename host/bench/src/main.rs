@@ -1,7 +1,9 @@
 //! Measures the proved emulator beside the second emulator and a plain C interpreter, on the recipes
-//! of examples/, and checks that all three end alike.
+//! of examples/, and checks that all three end alike. Then it measures the proved assembler beside
+//! GNU as, on lines of the outside vectors, and checks that ours gives their bytes.
 #[cfg(test)]
 mod agreement;
+mod assembling;
 mod engines;
 mod measure;
 mod plain;
@@ -9,6 +11,7 @@ mod plain;
 mod results;
 mod stopwatch;
 mod table;
+mod texts;
 mod workloads;
 
 use std::process::ExitCode;
@@ -21,7 +24,11 @@ prints million steps a second from each engine's best processor time:
   phuyurik   the proved emulator
   second     the second emulator, in Rust
   plain C    a plain C interpreter
-Ends with 1 if two engines do not leave the same state, memory and row.";
+Then assembles each text N times and prints million lines a second likewise:
+  phuyurik   the proved assembler
+  GNU as     riscv64-unknown-elf-as, if there is one: user time of its whole process
+Ends with 1 if two engines do not leave the same state, memory and row, or if the
+proved assembler does not give the bytes of the outside vectors.";
 
 /// The number of repeats; none if help is asked for.
 fn repeats(arguments: &[String]) -> Result<Option<u32>, String> {
@@ -38,9 +45,13 @@ fn repeats(arguments: &[String]) -> Result<Option<u32>, String> {
 }
 
 fn measure_all(repeats: u32) -> Result<(), String> {
-    println!("{}", table::head());
+    println!("{}", table::head(&table::RUNNING));
     for workload in &workloads::WORKLOADS {
-        println!("{}", table::line(&measure::measure(workload, repeats)?));
+        println!("{}", table::run(&measure::measure(workload, repeats)?));
+    }
+    println!("\n{}", table::head(&table::ASSEMBLING));
+    for text in &texts::texts() {
+        println!("{}", table::assembled(&assembling::measure(text, repeats)?));
     }
     Ok(())
 }
