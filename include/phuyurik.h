@@ -2,13 +2,14 @@
  * memory and the 64 one-time words of the part in the socket.
  *
  * Every function that can refuse returns PHUYURIK_ACCEPTED, which is 0, or a refusal. A refusal says
- * nothing else: every buffer and every place that was lent to the call is as it was. The one exception
- * are the last two places of phuyurik_assemble, for what a refusal tells. Where more than one refusal
- * applies, the first in the order that the function names is given. Later versions add refusals and
- * stops: a switch over them has a default. No input is forbidden, but for what C asks: a pointer points
- * to as many bytes as its size says (where that is 0 it may be NULL), a place for a value is there, and
- * what a call may write overlaps nothing else that the call is given. No function keeps a pointer,
- * allocates, or has state of its own, so calls on different buffers may run at the same time.
+ * nothing else: every buffer and every place that was lent to the call is as it was. The exceptions are
+ * places at the end of a call, for what a refusal tells: the word of 3, and the line and the byte of 10
+ * to 12. Where more than one refusal applies, the first in the order that the function names is given.
+ * Later versions add refusals and stops: a switch over them has a default. No input is forbidden, but
+ * for what C asks: a pointer points to as many bytes as its size says (where that is 0 it may be NULL),
+ * a place for a value is there, and what a call may write overlaps nothing else that the call is given.
+ * No function keeps a pointer, allocates, or has state of its own, so calls on different buffers may
+ * run at the same time.
  *
  * Buffers come in one order in every call: state, memory, row, slots. For C11 and C++11 or later.
  */
@@ -41,7 +42,7 @@ extern "C" {
  */
 
 #define PHUYURIK_VERSION_MAJOR 0
-#define PHUYURIK_VERSION_MINOR 5
+#define PHUYURIK_VERSION_MINOR 6
 #define PHUYURIK_VERSION_PATCH 0
 #define PHUYURIK_VERSION                                                                                \
     (PHUYURIK_VERSION_MAJOR * 65536u + PHUYURIK_VERSION_MINOR * 256u + PHUYURIK_VERSION_PATCH)
@@ -65,8 +66,7 @@ typedef enum phuyurik_refusal {
     PHUYURIK_ROW_LENGTH = 2,          /* row not 512 bytes */
     PHUYURIK_ROW_RECORD = 3,          /* a row record breaks its rules */
     PHUYURIK_SLOT = 4,                /* slot buffer not a multiple of 144, or no such slot */
-    PHUYURIK_STATE = 5,               /* state malformed, or, on reading, its record's bytes
-                                       * 137-139 not zero */
+    PHUYURIK_ODD_PC = 5,              /* odd pc */
     PHUYURIK_ROOM = 6,                /* text room under 24 bytes */
     PHUYURIK_NO_INSTRUCTION = 7,      /* no legal instruction in the given bits */
     PHUYURIK_FIELD = 8,               /* a field out of range, or an odd branch or jal offset */
@@ -74,7 +74,10 @@ typedef enum phuyurik_refusal {
     PHUYURIK_UNREADABLE = 10,         /* a line that cannot be read */
     PHUYURIK_NUMBER_NOT_ALLOWED = 11, /* a line with a number or offset not allowed */
     PHUYURIK_NO_SHORT_LINE = 12,      /* a line with `c:` without a short form */
-    PHUYURIK_OUTPUT_ROOM = 13         /* room shorter than the whole output */
+    PHUYURIK_OUTPUT_ROOM = 13,        /* room shorter than the whole output */
+    PHUYURIK_STOP_NUMBER = 14,        /* stop number out of range */
+    PHUYURIK_RECORD_END = 15          /* bytes 137 to 143 of a record, or a state's address, break
+                                       * their rules */
 } phuyurik_refusal;
 
 /* The words for a refusal's number; those for any other number say that it is none. */
@@ -85,7 +88,7 @@ static inline const char *phuyurik_refusal_text(unsigned number) {
         "row not 512 bytes",
         "a row record breaks its rules",
         "slot buffer not a multiple of 144, or no such slot",
-        "state malformed, or, on reading, its record's bytes 137-139 not zero",
+        "odd pc",
         "text room under 24 bytes",
         "no legal instruction in the given bits",
         "instruction with a field out of range, or an odd branch or jal offset",
@@ -94,6 +97,8 @@ static inline const char *phuyurik_refusal_text(unsigned number) {
         "a number or offset not allowed",
         "`c:` without a short form",
         "room shorter than the whole output",
+        "stop number out of range",
+        "bytes 137 to 143 of a record, or a state's address, break their rules",
     };
     return number < sizeof texts / sizeof *texts ? texts[number] : "no refusal has this number";
 }
@@ -289,9 +294,10 @@ phuyurik_refusal phuyurik_assemble(const uint8_t *text, size_t text_size, uint8_
  *     5, 6, 7, 8, 9   the address accessed: register plus immediate, modulo 2^32
  *     0, 1, 2, 10     0
  *
- * A state is malformed with an odd pc, a stop number above 10, a `zero` that is not zero, or an
- * address that is not 0 where the stop is 0, 1, 2 or 10. With another stop any address is accepted: a
- * record that was written before there were addresses has 0 there. Programs do not name `zero`. */
+ * A state, and a record, is refused with 5 for an odd pc; then with 14 for a stop number above 10; then
+ * with 15 for a `zero` that is not zero, or an address that is not 0 where the stop is 0, 1, 2 or 10.
+ * With another stop any address is accepted: a record that was written before there were addresses has
+ * 0 there. Programs do not name `zero`. */
 
 typedef struct phuyurik_state {
     uint32_t pc;
@@ -345,16 +351,21 @@ static inline uint32_t phuyurik_word(const uint8_t *row, unsigned k) {
 
 /* ---- steps and runs
  *
- * mem is main memory, at address 0; row is the fuse row of the part. */
+ * mem is main memory, at address 0; row is the fuse row of the part. With refusal 3 the lowest word, 0
+ * to 63, whose record breaks the rules goes into *word, also of phuyurik_run_slot; else *word stays:
+ *
+ *     refusal = phuyurik_step(&state, mem, mem_size, row, row_size, &word);
+ *     if (refusal == PHUYURIK_ROW_RECORD) fprintf(stderr, "record of word %zu\n", word);
+ */
 
-/* One step; a state that has stopped stays as it is. Refuses with 1, 2, 3, 5. */
+/* One step; a state that has stopped stays as it is. Refuses with 1, 2, 3, 5, 14, 15. */
 phuyurik_refusal phuyurik_step(phuyurik_state *state, uint8_t *mem, size_t mem_size, uint8_t *row,
-                               size_t row_size);
+                               size_t row_size, size_t *word);
 
 /* Steps while the state is paused and fewer than `budget` have retired; the number retired goes into
- * *retired. Refuses with 1, 2, 3, 5. */
+ * *retired. Refuses with 1, 2, 3, 5, 14, 15. */
 phuyurik_refusal phuyurik_run(phuyurik_state *state, uint8_t *mem, size_t mem_size, uint8_t *row,
-                              size_t row_size, uint64_t budget, uint64_t *retired);
+                              size_t row_size, uint64_t budget, uint64_t *retired, size_t *word);
 
 /* ---- slots
  *
@@ -362,19 +373,19 @@ phuyurik_refusal phuyurik_run(phuyurik_state *state, uint8_t *mem, size_t mem_si
  * 128-135 the retired count, 136 the stop number, 137-139 zero, 140-143 the stop's address, all
  * little-endian. k counts from 0. */
 
-/* A state into slot k; no other byte changes. Refuses with 4, 5. */
+/* A state into slot k; no other byte changes. Refuses with 4, 5, 14, 15. */
 phuyurik_refusal phuyurik_write_slot(const phuyurik_state *state, uint8_t *slots, size_t slots_size,
                                      size_t k);
 
-/* The state in slot k. Refuses with 4, 5. */
+/* The state in slot k. Refuses with 4, 5, 14, 15. */
 phuyurik_refusal phuyurik_read_slot(phuyurik_state *state, const uint8_t *slots, size_t slots_size,
                                     size_t k);
 
 /* Reads slot k, runs it as phuyurik_run does and writes it back. However a budget is cut into such
- * calls, the end is that of the whole budget. Refuses with 1, 2, 3, 4, 5. */
+ * calls, the end is that of the whole budget. Refuses with 1, 2, 3, 4, 5, 14, 15. */
 phuyurik_refusal phuyurik_run_slot(uint8_t *mem, size_t mem_size, uint8_t *row, size_t row_size,
                                    uint8_t *slots, size_t slots_size, size_t k, uint64_t budget,
-                                   uint64_t *retired);
+                                   uint64_t *retired, size_t *word);
 
 #undef PHUYURIK_ASSERT
 

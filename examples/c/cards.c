@@ -1,6 +1,6 @@
 /* Through the C interface: the paper's cards 1, 3, 7, 10, 11 (also with a budget of 3) and 12, the
  * recipe in pieces through a slot, its listing, the recipe assembled from its text, a word cleared and
- * trimmed, the addresses of stops, and six refusals. Valid C11 and C++17. */
+ * trimmed, the addresses of stops, and eight refusals. Valid C11 and C++17. */
 #include <phuyurik.h>
 
 #include <stdio.h>
@@ -10,6 +10,7 @@ struct bench {
     phuyurik_state state;
     uint8_t memory[14];
     uint8_t row[PHUYURIK_ROW_SIZE];
+    size_t word; /* for what refusal 3 tells */
 };
 
 static const uint8_t recipe[14] = {0x9D, 0x42, 0x37, 0x03, 0x00, 0x80, 0x23,
@@ -19,6 +20,7 @@ static const uint8_t recipe[14] = {0x9D, 0x42, 0x37, 0x03, 0x00, 0x80, 0x23,
 static void start(struct bench *b) {
     memcpy(b->memory, recipe, sizeof recipe);
     memset(&b->state, 0, sizeof b->state);
+    b->word = 77;
 }
 
 /* A stop in words, and where it was, if it has an address. */
@@ -36,7 +38,17 @@ static void show(const char *name, uint64_t retired, const struct bench *b) {
 }
 
 static phuyurik_refusal run(struct bench *b, uint64_t budget, uint64_t *retired) {
-    return phuyurik_run(&b->state, b->memory, sizeof b->memory, b->row, sizeof b->row, budget, retired);
+    return phuyurik_run(&b->state, b->memory, sizeof b->memory, b->row, sizeof b->row, budget, retired,
+                        &b->word);
+}
+
+/* A run of one step, and what then stands in the places for the number retired and for the word. */
+static void show_refusal(struct bench *b) {
+    uint64_t retired = 77;
+    phuyurik_refusal refusal = run(b, 1, &retired);
+    printf("refusal %u, retired %llu, word %zu\n", (unsigned)refusal, (unsigned long long)retired,
+           b->word);
+    printf("%u is: %s\n", (unsigned)refusal, phuyurik_refusal_text(refusal));
 }
 
 /* Cards 1, 3 and 7: bits to instructions and back. */
@@ -68,7 +80,7 @@ static int card_10(struct bench *b) {
     b->state.pc = 0x20;
     b->state.x[0] = 0x10;
     b->state.x[30] = 31;
-    if (phuyurik_step(&b->state, memory, sizeof memory, b->row, sizeof b->row)) return 1;
+    if (phuyurik_step(&b->state, memory, sizeof memory, b->row, sizeof b->row, &b->word)) return 1;
     printf("card 10: pc 0x%x, x1 0x%x, x0 %u, x31 %u, no x32 %u\n", (unsigned)b->state.pc,
            (unsigned)phuyurik_reg(&b->state, 1), (unsigned)phuyurik_reg(&b->state, 0),
            (unsigned)phuyurik_reg(&b->state, 31), (unsigned)phuyurik_reg(&b->state, 32));
@@ -105,7 +117,7 @@ static int in_pieces(struct bench *b) {
     if (phuyurik_write_slot(&b->state, slots, sizeof slots, 1)) return 1;
     for (piece = 0; piece < 5; piece++) {
         if (phuyurik_run_slot(b->memory, sizeof b->memory, b->row, sizeof b->row, slots, sizeof slots,
-                              1, 1, &retired) != PHUYURIK_ACCEPTED) {
+                              1, 1, &retired, &b->word) != PHUYURIK_ACCEPTED) {
             return 1;
         }
         all += retired;
@@ -159,7 +171,6 @@ static int clear_and_trim(struct bench *b) {
                                        0x23, 0xA0, 0x20, 0x00,  /* sw x2,0(x1) */
                                        0x23, 0xA0, 0x00, 0x00}; /* sw x0,0(x1) */
     uint64_t retired = 0;
-    phuyurik_refusal refusal;
     memset(b->row, 0, sizeof b->row);
     start(b);
     memcpy(b->memory, stores, sizeof stores);
@@ -170,8 +181,7 @@ static int clear_and_trim(struct bench *b) {
     if (run(b, 9, &retired)) return 1;
     show("trimmed", retired, b);
     b->row[0] = 0;
-    refusal = run(b, 9, &retired);
-    printf("%u is: %s\n", (unsigned)refusal, phuyurik_refusal_text(refusal));
+    show_refusal(b);
     return 0;
 }
 
@@ -210,29 +220,39 @@ static int addresses(struct bench *b) {
         start(b);
         b->state.pc = 4;
         b->state.x[0] = steps[i].x1;
-        if (phuyurik_step(&b->state, memory, steps[i].memory_size, b->row, sizeof b->row)) return 1;
+        if (phuyurik_step(&b->state, memory, steps[i].memory_size, b->row, sizeof b->row, &b->word)) {
+            return 1;
+        }
         show_address(b);
     }
     start(b);
     b->state.count = UINT64_MAX;
-    if (phuyurik_step(&b->state, memory, sizeof memory, b->row, sizeof b->row)) return 1;
+    if (phuyurik_step(&b->state, memory, sizeof memory, b->row, sizeof b->row, &b->word)) return 1;
     show_address(b);
     return 0;
 }
 
-/* A pause that has an address is malformed, until its stop is set anew. */
-static void address_of_a_pause(struct bench *b) {
-    uint64_t retired = 77;
-    phuyurik_refusal refusal, then;
+/* Bad records are told apart: two of the row, of which the lower word is told, then a state's odd pc,
+ * then its stop number, then its address, which a pause does not have. All are there from the start, and
+ * mended one after the other, the last by a stop that is set anew. */
+static void bad_records(struct bench *b) {
     start(b);
+    memset(b->row, 0, sizeof b->row);
+    b->row[8 * 17 + 4] = 1; /* a mark with value 0 */
+    b->row[8 * 40] = 1;     /* a value with mark 0 */
+    b->state.pc = 1;
+    b->state.stop = 11;
     b->state.address = 4;
-    refusal = run(b, 1, &retired);
-    printf("refusal %u, %llu and %u still there\n", (unsigned)refusal, (unsigned long long)retired,
-           (unsigned)b->state.address);
-    printf("%u is: %s\n", (unsigned)refusal, phuyurik_refusal_text(refusal));
+    show_refusal(b);
+    memset(b->row, 0, sizeof b->row);
+    b->word = 77;
+    show_refusal(b);
+    b->state.pc = 0;
+    show_refusal(b);
+    b->state.stop = PHUYURIK_PAUSED;
+    show_refusal(b);
     phuyurik_set_stop(&b->state, PHUYURIK_PAUSED);
-    then = run(b, 1, &retired);
-    printf("set anew: refusal %u, %llu retired\n", (unsigned)then, (unsigned long long)retired);
+    show_refusal(b);
 }
 
 /* Refusals leave everything as it was: no slot 2, and a room of 23 bytes. */
@@ -242,10 +262,10 @@ static void refusals(struct bench *b) {
     uint64_t retired = 77;
     size_t length = 77;
     phuyurik_refusal slot = phuyurik_run_slot(b->memory, sizeof b->memory, b->row, sizeof b->row, slots,
-                                              sizeof slots, 2, 1, &retired);
+                                              sizeof slots, 2, 1, &retired, &b->word);
     phuyurik_refusal text = phuyurik_text_of_word(0x00A00513, room, sizeof room, &length);
-    printf("refusals %u and %u, %llu and %zu still there\n", (unsigned)slot, (unsigned)text,
-           (unsigned long long)retired, length);
+    printf("refusals %u and %u, %llu, %zu and %zu still there\n", (unsigned)slot, (unsigned)text,
+           (unsigned long long)retired, b->word, length);
     printf("%u is: %s\n", (unsigned)slot, phuyurik_refusal_text(slot));
 }
 
@@ -260,7 +280,7 @@ int main(void) {
     list(recipe, sizeof recipe);
     texts();
     if (clear_and_trim(&b) || addresses(&b)) return 1;
-    address_of_a_pause(&b);
+    bad_records(&b);
     refusals(&b);
     return 0;
 }

@@ -20,24 +20,27 @@ static void runs(void) {
     uint8_t row[PHUYURIK_ROW_SIZE] = {0};
     uint8_t slots[PHUYURIK_RECORD_SIZE] = {0};
     uint64_t retired = 77;
+    size_t word = 77;
     memset(&state, 0, sizeof state);
-    expect("a step with no memory", phuyurik_step(&state, NULL, 0, row, sizeof row), 0);
+    expect("a step with no memory", phuyurik_step(&state, NULL, 0, row, sizeof row, &word), 0);
     expect("its stop", state.stop, PHUYURIK_FETCH_OUTSIDE);
     state.address = 2;
     phuyurik_set_stop(&state, PHUYURIK_PAUSED);
     expect("the address after a stop was set", state.address, 0);
-    expect("a step with no row", phuyurik_step(&state, NULL, 0, NULL, 0), PHUYURIK_ROW_LENGTH);
-    expect("a run with no row", phuyurik_run(&state, NULL, 0, NULL, 0, 9, &retired), PHUYURIK_ROW_LENGTH);
-    expect("a run of no slots", phuyurik_run_slot(NULL, 0, row, sizeof row, NULL, 0, 0, 9, &retired),
-           PHUYURIK_SLOT);
+    expect("a step with no row", phuyurik_step(&state, NULL, 0, NULL, 0, &word), PHUYURIK_ROW_LENGTH);
+    expect("a run with no row", phuyurik_run(&state, NULL, 0, NULL, 0, 9, &retired, &word),
+           PHUYURIK_ROW_LENGTH);
+    expect("a run of no slots",
+           phuyurik_run_slot(NULL, 0, row, sizeof row, NULL, 0, 0, 9, &retired, &word), PHUYURIK_SLOT);
     expect("what was retired", retired, 77);
     expect("a slot's run with no memory",
-           phuyurik_run_slot(NULL, 0, row, sizeof row, slots, sizeof slots, 0, 9, &retired), 0);
+           phuyurik_run_slot(NULL, 0, row, sizeof row, slots, sizeof slots, 0, 9, &retired, &word), 0);
     expect("its stop", slots[136], PHUYURIK_FETCH_OUTSIDE);
-    expect("a run with no memory", phuyurik_run(&state, NULL, 0, row, sizeof row, 9, &retired), 0);
+    expect("a run with no memory", phuyurik_run(&state, NULL, 0, row, sizeof row, 9, &retired, &word), 0);
     expect("what was retired", retired, 0);
     expect("its stop", state.stop, PHUYURIK_FETCH_OUTSIDE);
-    expect("a step after it", phuyurik_step(&state, NULL, 0, row, sizeof row), 0);
+    expect("a step after it", phuyurik_step(&state, NULL, 0, row, sizeof row, &word), 0);
+    expect("the word, which none told", word, 77);
 }
 
 static void slots(void) {

@@ -8,9 +8,10 @@ int main(void) {
     uint8_t row[PHUYURIK_ROW_SIZE] = {0};
     phuyurik_state state = {0};
     uint64_t retired;
+    size_t word;
     phuyurik_refusal refusal;
     if (phuyurik_version() != PHUYURIK_VERSION) return 1;
-    refusal = phuyurik_run(&state, memory, sizeof memory, row, sizeof row, 100, &retired);
+    refusal = phuyurik_run(&state, memory, sizeof memory, row, sizeof row, 100, &retired, &word);
     if (refusal != PHUYURIK_ACCEPTED) {
         fprintf(stderr, "refused: %s\n", phuyurik_refusal_text(refusal));
         return 1;

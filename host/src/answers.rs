@@ -79,7 +79,7 @@ numbered! {
         RowLength = 2: "row not 512 bytes",
         RowRecord = 3: "a row record breaks its rules",
         Slot = 4: "slot buffer not a multiple of 144, or no such slot",
-        State = 5: "state malformed, or, on reading, its record's bytes 137-139 not zero",
+        OddPc = 5: "odd pc",
         Room = 6: "text room under 24 bytes",
         NoInstruction = 7: "no legal instruction in the given bits",
         Field = 8: "instruction with a field out of range, or an odd branch or jal offset",
@@ -88,6 +88,8 @@ numbered! {
         NumberNotAllowed = 11: "a number or offset not allowed",
         NoShortLine = 12: "`c:` without a short form",
         OutputRoom = 13: "room shorter than the whole output",
+        StopNumber = 14: "stop number out of range",
+        RecordEnd = 15: "bytes 137 to 143 of a record, or a state's address, break their rules",
     }
 }
 
@@ -157,7 +159,7 @@ impl Refusal {
             Refusal::MemoryTooLong => Argument::Memory,
             Refusal::RowLength | Refusal::RowRecord => Argument::Row,
             Refusal::Slot => Argument::Slots,
-            Refusal::State => Argument::State,
+            Refusal::OddPc | Refusal::StopNumber | Refusal::RecordEnd => Argument::State,
             Refusal::Room => Argument::Room,
             Refusal::NoInstruction => Argument::Bits,
             Refusal::Field | Refusal::NoShortForm => Argument::Instruction,
@@ -262,7 +264,7 @@ mod tests {
     #[test]
     fn numbers_leave_none_out() {
         let refusals = Refusal::ALL.iter().map(|refusal| refusal.number());
-        assert!(refusals.eq(1..=13));
+        assert!(refusals.eq(1..=15));
         let stops = Stop::ALL.iter().map(|stop| stop.number());
         assert!(stops.eq(0..=10));
         let operations = Operation::ALL.iter().map(|operation| operation.number());

@@ -4,10 +4,11 @@ use crate::{Slots, State};
 use phuyurik_sys as sys;
 
 /// What a recipe runs on: main memory, at address 0, and the fuse row of the part, lent once for any
-/// number of steps and runs. Whether they are sound is looked at in each.
+/// number of steps and runs. Whether they are sound is looked at in each. A record of the row that breaks
+/// its rules is refused with its word ([`Error::RowRecord`]).
 ///
 /// ```
-/// use phuyurik::{Board, Row, State, Stop, Word};
+/// use phuyurik::{Board, Error, Row, State, Stop, Word};
 /// // addi x5,x0,7; lui x6,524288; sw x5,0(x6); ecall
 /// let mut memory = [0x9D, 0x42, 0x37, 0x03, 0x00, 0x80, 0x23, 0x20, 0x53, 0x00, 0x73, 0, 0, 0];
 /// let mut row = Row::default();
@@ -17,7 +18,11 @@ use phuyurik_sys as sys;
 /// assert_eq!(board.run(&mut state, 100)?, 2);
 /// assert_eq!((state.stop(), state.pc), (Ok(Stop::Ecall), 10));
 /// assert_eq!(row.word(0), Word::Burnt(7));
-/// # Ok::<(), phuyurik::Error>(())
+/// row.as_mut()[8 * 17 + 4] = 1; // a mark with value 0
+/// let error = Board::new(&mut memory, &mut row).step(&mut state).unwrap_err();
+/// assert_eq!(error, Error::RowRecord { word: 17 });
+/// assert_eq!(error.to_string(), "word 17: refusal 3: a row record breaks its rules");
+/// # Ok::<(), Error>(())
 /// ```
 #[derive(Debug)]
 pub struct Board<'a> {
@@ -54,13 +59,14 @@ impl<'a> Board<'a> {
         let (memory, row) = (&mut *self.memory, &mut *self.row);
         // SAFETY: every buffer and place is lent for the call alone, and no two of them overlap; a
         // `State` is laid out as the C interface's.
-        ask(|| unsafe {
+        ask_of_row(|word| unsafe {
             sys::phuyurik_step(
                 state.lent_mut(),
                 memory.as_mut_ptr(),
                 memory.len(),
                 row.as_mut_ptr(),
                 row.len(),
+                word,
             )
         })
     }
@@ -76,14 +82,14 @@ impl<'a> Board<'a> {
     /// assert_eq!(board.run(&mut state, 1000)?, 1000);
     /// assert_eq!(state.stop(), Ok(Stop::Paused));
     /// state.pc = 1;
-    /// assert_eq!(board.run(&mut state, 1000), Err(Refusal::State.into()));
+    /// assert_eq!(board.run(&mut state, 1000), Err(Refusal::OddPc.into()));
     /// # Ok::<(), phuyurik::Error>(())
     /// ```
     pub fn run(&mut self, state: &mut State, budget: u64) -> Result<u64, Error> {
         let (memory, row) = (&mut *self.memory, &mut *self.row);
         let mut retired = 0;
         // SAFETY: as above.
-        ask(|| unsafe {
+        ask_of_row(|word| unsafe {
             sys::phuyurik_run(
                 state.lent_mut(),
                 memory.as_mut_ptr(),
@@ -92,6 +98,7 @@ impl<'a> Board<'a> {
                 row.len(),
                 budget,
                 &mut retired,
+                word,
             )
         })?;
         Ok(retired)
@@ -122,7 +129,7 @@ impl<'a> Board<'a> {
         let slots = slots.bytes_mut();
         let mut retired = 0;
         // SAFETY: as above.
-        ask(|| unsafe {
+        ask_of_row(|word| unsafe {
             sys::phuyurik_run_slot(
                 memory.as_mut_ptr(),
                 memory.len(),
@@ -133,6 +140,7 @@ impl<'a> Board<'a> {
                 k,
                 budget,
                 &mut retired,
+                word,
             )
         })?;
         Ok(retired)
@@ -170,4 +178,11 @@ impl<'a> Board<'a> {
     pub fn row(&self) -> &[u8] {
         self.row
     }
+}
+
+/// Asks the archive with a place for the word that a refused row tells.
+#[inline]
+fn ask_of_row(call: impl FnOnce(&mut usize) -> u32) -> Result<(), Error> {
+    let mut word = 0;
+    ask(|| call(&mut word)).map_err(|error| error.of_word(word))
 }

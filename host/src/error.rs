@@ -25,6 +25,11 @@ pub enum Error {
         /// The byte within that line, counted from 0.
         byte: usize,
     },
+    /// The library refused a record of a row, with [`Refusal::RowRecord`].
+    RowRecord {
+        /// The lowest word, 0 to 63, whose record breaks the rules.
+        word: usize,
+    },
     /// A number that this wrapper has no name for.
     UnknownNumber(u32),
     /// The archive that was linked is not of the wrapper's version, and was asked for nothing.
@@ -50,6 +55,7 @@ impl Error {
     pub const fn refusal(self) -> Option<Refusal> {
         match self {
             Error::Refused(refusal) | Error::Line { refusal, .. } => Some(refusal),
+            Error::RowRecord { .. } => Some(Refusal::RowRecord),
             _ => None,
         }
     }
@@ -63,6 +69,14 @@ impl Error {
                 line,
                 byte,
             },
+            other => other,
+        }
+    }
+
+    /// The same with the word that the archive wrote, where it is the refusal that has one.
+    pub(crate) fn of_word(self, word: usize) -> Error {
+        match self {
+            Error::Refused(Refusal::RowRecord) => Error::RowRecord { word },
             other => other,
         }
     }
@@ -98,6 +112,7 @@ impl fmt::Display for Error {
                 line,
                 byte,
             } => write!(f, "line {line}, byte {byte}: {refusal}"),
+            Error::RowRecord { word } => write!(f, "word {word}: {}", Refusal::RowRecord),
             Error::UnknownNumber(number) => write!(f, "{number} is not a number known here"),
             Error::Version { wrapper, archive } => {
                 let (wrapper, archive) = (Dotted(*wrapper), Dotted(*archive));
@@ -159,18 +174,19 @@ mod tests {
     }
 
     #[test]
-    fn only_a_refusal_of_a_line_has_its_place() {
+    fn only_a_refusal_that_tells_more_has_it() {
         for refusal in Refusal::ALL {
-            let error = Error::Refused(*refusal).in_line(2, 8);
+            let error = Error::Refused(*refusal).in_line(2, 8).of_word(17);
             assert_eq!(error.refusal(), Some(*refusal));
             let told = match refusal.number() {
+                3 => format!("word 17: {refusal}"),
                 10..=12 => format!("line 2, byte 8: {refusal}"),
                 _ => refusal.to_string(),
             };
             assert_eq!(error.to_string(), told);
         }
         let unknown = Error::UnknownNumber(99);
-        assert_eq!(unknown.in_line(2, 8), unknown);
+        assert_eq!(unknown.in_line(2, 8).of_word(17), unknown);
     }
 
     #[test]

@@ -70,7 +70,7 @@ impl<B: AsRef<[u8]>> Slots<B> {
     /// let mut bytes = [0; RECORD];
     /// assert_eq!(Slots::new(&bytes).read(0), Ok(State::fresh()));
     /// bytes[143] = 1;
-    /// assert_eq!(Slots::new(&bytes).read(0), Err(Refusal::State.into()));
+    /// assert_eq!(Slots::new(&bytes).read(0), Err(Refusal::RecordEnd.into()));
     /// ```
     pub fn read(&self, k: usize) -> Result<State, Error> {
         let slots = self.0.as_ref();
@@ -94,7 +94,7 @@ impl<B: AsMut<[u8]>> Slots<B> {
     /// Slots::new(&mut bytes).write(0, &state)?;
     /// assert_eq!(bytes, state.to_bytes());
     /// state.pc = 1;
-    /// assert_eq!(Slots::new(&mut bytes).write(0, &state), Err(Refusal::State.into()));
+    /// assert_eq!(Slots::new(&mut bytes).write(0, &state), Err(Refusal::OddPc.into()));
     /// # Ok::<(), phuyurik::Error>(())
     /// ```
     pub fn write(&mut self, k: usize, state: &State) -> Result<(), Error> {

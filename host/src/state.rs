@@ -104,7 +104,7 @@ impl State {
     /// assert_eq!(board.step(&mut state), Ok(()));
     /// assert_eq!((state.stop(), state.address()), (Ok(Stop::StoreOutside), 0x1000));
     /// state.set_stop_at(Stop::Ecall, 0x1000);
-    /// assert_eq!(board.step(&mut state), Err(Refusal::State.into()));
+    /// assert_eq!(board.step(&mut state), Err(Refusal::RecordEnd.into()));
     /// ```
     pub fn set_stop_at(&mut self, stop: Stop, address: u32) {
         self.set_stop(stop);
@@ -144,7 +144,7 @@ impl State {
     /// let mut state = State::fresh();
     /// state.set_stop_number(200);
     /// let refused = Board::new(&mut [], &mut Row::default()).step(&mut state);
-    /// assert_eq!(refused, Err(Refusal::State.into()));
+    /// assert_eq!(refused, Err(Refusal::StopNumber.into()));
     /// ```
     pub fn set_stop_number(&mut self, number: u8) {
         self.stop_number = number;

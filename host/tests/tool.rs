@@ -225,20 +225,17 @@ fn a_refusal_of_the_image_or_the_row_is_30_and_its_number() {
         is_refused("part.row", &vec![0; length], 32, words);
     }
     let rules = [
-        (0, 1, "word 0: mark 0 with value 1, and a blank word has 0"),
-        (
-            4,
-            1,
-            "word 0: mark 1 with value 0, and a burnt word has another",
-        ),
-        (12, 2, "word 1: mark 2, and a mark is 0 or 1"),
-        (5, 1, "word 0: bytes 5 to 7 are not zero"),
-        (511, 1, "word 63: bytes 5 to 7 are not zero"),
+        (0, 1, "mark 0 with value 1, and a blank word has 0"),
+        (4, 1, "mark 1 with value 0, and a burnt word has another"),
+        (4, 2, "mark 2, and a mark is 0 or 1"),
+        (5, 1, "bytes 5 to 7 are not zero"),
+        (7, 1, "bytes 5 to 7 are not zero"),
     ];
-    for (at, byte, rule) in rules {
+    for (word, (at, byte, rule)) in [0, 17, 62].iter().flat_map(|word| rules.map(|r| (word, r))) {
         let mut row = [0; ROW];
-        row[at] = byte;
-        let words = format!("refusal 3: a row record breaks its rules ({rule})");
+        // of two words the lower is told
+        (row[511], row[8 * word + at]) = (128, byte);
+        let words = format!("refusal 3: record of word {word} breaks its rules: {rule}");
         is_refused("part.row", &row, 33, &words);
     }
 }
@@ -248,12 +245,51 @@ fn a_refusal_of_the_slots_is_30_and_its_number() {
     let words = "refusal 4: slot buffer not a multiple of 144, or no such slot";
     is_refused("line.slots", &[0; RECORD - 1], 34, words);
     is_refused("line.slots", &[0; RECORD + 1], 34, words);
-    let words = "refusal 5: state malformed";
-    let no_stop = Stop::ALL.len() as u8;
-    for (at, byte) in [(0, 1), (136, no_stop), (137, 1), (143, 128)] {
-        let mut record = [0; RECORD];
-        record[at] = byte;
-        is_refused("line.slots", &record, 35, words);
+    for (first, last, code, fault) in RECORD_FAULTS {
+        let words = format!("refusal {}: slot 0: {fault}", code - 30);
+        is_refused("line.slots", &record_with(first, last), code, &words);
+    }
+}
+
+const NOT_ZERO: &str = "bytes 137 to 139 are not zero";
+const OF_A_PAUSE: &str = "address 0x00000004 with stop 0, which has none";
+const OF_A_FULL_COUNT: &str = "address 0x80000000 with stop 10, which has none";
+
+/// The first byte of a record, its last eight, the exit code, and what stands there.
+const RECORD_FAULTS: [(u8, [u8; 8], i32, &str); 8] = [
+    (1, [0, 0, 0, 0, 0, 0, 0, 0], 35, "odd pc"),
+    (1, [23, 0, 0, 1, 0, 0, 0, 1], 35, "odd pc"),
+    (2, [11, 0, 0, 0, 0, 0, 0, 0], 44, "stop number 11"),
+    (2, [23, 0, 0, 1, 0, 0, 0, 1], 44, "stop number 23"),
+    (0, [0, 1, 0, 0, 0, 0, 0, 0], 45, NOT_ZERO),
+    (0, [6, 0, 0, 1, 0, 0, 0, 1], 45, NOT_ZERO),
+    (0, [0, 0, 0, 0, 4, 0, 0, 0], 45, OF_A_PAUSE),
+    (0, [10, 0, 0, 0, 0, 0, 0, 128], 45, OF_A_FULL_COUNT),
+];
+
+fn record_with(first: u8, last: [u8; 8]) -> [u8; RECORD] {
+    let mut record = [0; RECORD];
+    record[0] = first;
+    record[136..].copy_from_slice(&last);
+    record
+}
+
+/// The slot that is named is the one that is told, and another one is shown all the same.
+#[test]
+fn a_bad_record_is_told_with_its_slot() {
+    for (first, last, code, fault) in RECORD_FAULTS {
+        let folder = with_paper();
+        let (fresh, bad) = ([0; RECORD], record_with(first, last));
+        let slots = [fresh, fresh, bad, fresh];
+        folder.write("line.slots", &slots.concat());
+        let words = format!("line.slots: refusal {}: slot 2: {fault}", code - 30);
+        folder.fails("slot line.slots 2", code, &[&words]);
+        let run = format!("run trim.bin {FILES} --budget 1 --slot 2");
+        folder.fails(&run, code, &[&words]);
+        let status = folder.call("status").out;
+        let line = format!("slot 2: no state that a run could have ({fault}), no memory file");
+        assert!(status.contains(&line), "{status}");
+        assert_eq!(folder.call("slot line.slots 3").code, 0);
     }
 }
 

@@ -108,10 +108,10 @@ fn slots_keep_states() {
     s.set_stop_at(Stop::LoadOutside, 0x8765_4321);
     slots.write(1, &s).unwrap();
     assert_eq!((slots.read(1), slots.len()), (Ok(s), 3));
-    assert_eq!(slots.read(0), refused(Refusal::State));
+    assert_eq!(slots.read(0), refused(Refusal::StopNumber));
     let before = slots.clone();
     s.pc = 1;
-    assert_eq!(slots.write(1, &s), refused(Refusal::State));
+    assert_eq!(slots.write(1, &s), refused(Refusal::OddPc));
     assert_eq!(slots.write(3, &s), refused(Refusal::Slot));
     assert_eq!(slots, before);
     let bytes = slots.into_inner();
@@ -155,9 +155,27 @@ fn what_stands_after_a_stop() {
         (record[136], record[at]) = (stop, 1);
         let answer = match (stop, at) {
             (3..=9, 140..) => Ok(()),
-            _ => refused(Refusal::State),
+            _ => refused(Refusal::RecordEnd),
         };
         assert_eq!(answers(record), [answer; 5], "stop {stop}, byte {at}");
+    }
+}
+
+/// An odd pc, then a stop number above 10, then the bytes after it: whatever else is wrong.
+#[test]
+fn faults_of_a_state_are_told_in_order() {
+    for (at, stop) in (137..RECORD).flat_map(|at| [11, 23, 255].map(|stop| (at, stop))) {
+        let mut record = State::fresh().to_bytes();
+        (record[0], record[136], record[at]) = (1, stop, 1);
+        assert_eq!(answers(record), [refused(Refusal::OddPc); 5]);
+        record[0] = 2;
+        assert_eq!(answers(record), [refused(Refusal::StopNumber); 5]);
+        record[136] = 10;
+        assert_eq!(answers(record), [refused(Refusal::RecordEnd); 5]);
+        (record[0], record[136]) = (1, 0);
+        assert_eq!(answers(record), [refused(Refusal::OddPc); 5]);
+        (record[0], record[at]) = (2, 0);
+        assert_eq!(Slots::new(record).read(0), Ok(State::from_bytes(record)));
     }
 }
 
@@ -209,23 +227,43 @@ fn which_row_records_are_refused() {
         records.push((record, false));
     }
     for (record, is_sound) in records {
-        let (mut memory, mut slots) = (RECIPE, Slots::new([0; RECORD]));
         let mut row = [burnt; WORDS].concat();
         row[8 * 40..8 * 41].copy_from_slice(&record);
-        let mut lent = row.clone();
-        let mut board = Board::new(&mut memory, &mut lent);
-        let answers = [
-            board.step(&mut State::fresh()),
-            board.run(&mut State::fresh(), 9).map(|_| ()),
-            board.run_slot(&mut slots, 0, 0).map(|_| ()),
-        ];
         let answer = if is_sound {
             Ok(())
         } else {
-            refused(Refusal::RowRecord)
+            Err(Error::RowRecord { word: 40 })
         };
-        assert_eq!(answers, [answer; 3], "{record:?}");
-        assert_eq!((lent, memory), (row, RECIPE));
+        assert_eq!(answers_of_row(&row), [answer; 3], "{record:?}");
+    }
+}
+
+/// What each call answers for a row, of which the recipe's word is burnt or bad. Nothing that was lent may
+/// change.
+fn answers_of_row(row: &[u8]) -> [Result<(), Error>; 3] {
+    let (mut memory, mut slots, mut lent) = (RECIPE, Slots::new([0; RECORD]), row.to_vec());
+    let mut board = Board::new(&mut memory, &mut lent);
+    let all = [
+        board.step(&mut State::fresh()),
+        board.run(&mut State::fresh(), 9).map(|_| ()),
+        board.run_slot(&mut slots, 0, 0).map(|_| ()),
+    ];
+    assert_eq!((&lent[..], memory), (row, RECIPE));
+    assert_eq!(slots.into_inner(), [0; RECORD]);
+    all
+}
+
+/// Of all records that break the rules the lowest word is told, counted from 0; and none with a row of
+/// another length.
+#[test]
+fn the_lowest_word_is_told() {
+    for (word, higher) in (0..WORDS).flat_map(|word| [(word, word), (word, 63)]) {
+        let mut row = [7, 0, 0, 0, 1, 0, 0, 0].repeat(WORDS);
+        (row[8 * word + 4], row[8 * higher + 7]) = (0, 1);
+        let answer = Err(Error::RowRecord { word });
+        assert_eq!(answers_of_row(&row), [answer; 3]);
+        row.push(0);
+        assert_eq!(answers_of_row(&row), [refused(Refusal::RowLength); 3]);
     }
 }
 
@@ -235,10 +273,8 @@ fn refusals_carry_the_papers_words() {
     row[5] = 1;
     let error = Board::new(&mut [], &mut row).run(&mut State::fresh(), 1);
     let error = error.unwrap_err();
-    assert_eq!(
-        error.to_string(),
-        "refusal 3: a row record breaks its rules"
-    );
+    let words = "word 0: refusal 3: a row record breaks its rules";
+    assert_eq!(error.to_string(), words);
     let mut room = [b'.'; 23];
     assert_eq!(put_text_of_word(0x73, &mut room), refused(Refusal::Room));
     assert_eq!(room, [b'.'; 23]);

@@ -1,14 +1,18 @@
 -- A number that leads back to its refusal or stop, by its place in a list, belongs to no other. Assumes nothing.
 use mathlib.Core.Path.{_≡_, refl, sym, ap, _∙_}
 use mathlib.Core.List.{[], _∷_}
+use mathlib.Core.Logic.{_⊎_, inl, inr}
+use mathlib.Core.Option.{Option, none}
 use Prim.Native.Nat.{ℕ, _-_, _≤_}
+use native.Mathlib.Omega.{arith}
 use lib.Dec.{lit≤}
 use lib.ListN.{getD}
 use Rattle.answers.specs.declared.Refusal.{Refusal}
 use Rattle.answers.specs.declared.Refusal.the-variants as R
 use Rattle.answers.specs.declared.Stop.{Stop}
 use Rattle.answers.specs.declared.Stop.the-variants as S
-use Rattle.answers.specs.Refusals.{numberOf}
+use Rattle.answers.specs.Refusals.{numberOf, wordOf}
+use Rattle.answers.specs.Replies.{placed}
 use Rattle.answers.specs.Stops.{stopNumber, lastStop}
 
 -- its number leads back to it, and lies from least to most
@@ -20,19 +24,19 @@ one-to-one number back f {a} {b} e = sym (f a) ∙ ap back e ∙ f b
 
 -- ---- refusals, from 1
 
-abbrev refusalOf : ℕ → Refusal
-refusalOf n =
+abbrev refusalOf : Option ℕ → ℕ → Refusal
+refusalOf word n =
     getD
-    (R.MemoryTooLong ∷ R.RowLength ∷ R.RowRecord ∷ R.Slot ∷ R.State ∷ R.Room ∷ R.NoInstruction ∷ R.Field ∷ R.NoShortForm ∷ R.Unreadable
-    ∷ R.NumberNotAllowed ∷ R.NoShortLine ∷ R.OutputRoom ∷ [])
+    (R.MemoryTooLong ∷ R.RowLength ∷ R.RowRecord (placed word 0) ∷ R.Slot ∷ R.OddPc ∷ R.Room ∷ R.NoInstruction ∷ R.Field ∷ R.NoShortForm ∷ R.Unreadable
+    ∷ R.NumberNotAllowed ∷ R.NoShortLine ∷ R.OutputRoom ∷ R.StopNumber ∷ R.RecordEnd ∷ [])
     (n - 1) R.MemoryTooLong
 
-pub refusal-numbered : (r : Refusal) → Numbered numberOf refusalOf 1 13 r
+pub refusal-numbered : (r : Refusal) → Numbered numberOf (refusalOf (wordOf r)) 1 15 r
 refusal-numbered R.MemoryTooLong = (refl, lit≤ tt, lit≤ tt)
 refusal-numbered R.RowLength = (refl, lit≤ tt, lit≤ tt)
-refusal-numbered R.RowRecord = (refl, lit≤ tt, lit≤ tt)
+refusal-numbered (R.RowRecord k) = (refl, lit≤ tt, lit≤ tt)
 refusal-numbered R.Slot = (refl, lit≤ tt, lit≤ tt)
-refusal-numbered R.State = (refl, lit≤ tt, lit≤ tt)
+refusal-numbered R.OddPc = (refl, lit≤ tt, lit≤ tt)
 refusal-numbered R.Room = (refl, lit≤ tt, lit≤ tt)
 refusal-numbered R.NoInstruction = (refl, lit≤ tt, lit≤ tt)
 refusal-numbered R.Field = (refl, lit≤ tt, lit≤ tt)
@@ -41,10 +45,30 @@ refusal-numbered R.Unreadable = (refl, lit≤ tt, lit≤ tt)
 refusal-numbered R.NumberNotAllowed = (refl, lit≤ tt, lit≤ tt)
 refusal-numbered R.NoShortLine = (refl, lit≤ tt, lit≤ tt)
 refusal-numbered R.OutputRoom = (refl, lit≤ tt, lit≤ tt)
+refusal-numbered R.StopNumber = (refl, lit≤ tt, lit≤ tt)
+refusal-numbered R.RecordEnd = (refl, lit≤ tt, lit≤ tt)
 
--- two refusals with one number are one
-pub number-of-one : {p q : Refusal} → numberOf p ≡ numberOf q → p ≡ q
-number-of-one e = one-to-one numberOf refusalOf (λ r. refusal-numbered r .0) e
+-- two refusals with one number, that tell one word, are one
+pub number-of-one : {p q : Refusal} → numberOf p ≡ numberOf q → wordOf p ≡ wordOf q → p ≡ q
+number-of-one {p} {q} e w = sym (refusal-numbered p .0) ∙ ap (refusalOf (wordOf p)) e ∙ rw w (refusal-numbered q .0)
+
+-- 3 tells a word, and no other does
+pub three-tells : (r : Refusal) → ((numberOf r ≡ 3) × ((before : ℕ) → placed (wordOf r) before ≡ placed (wordOf r) 0)) ⊎ ((numberOf r ≡ 3 → ⊥) × (wordOf r ≡ none))
+three-tells R.MemoryTooLong = inr (λ e. omega arith, refl)
+three-tells R.RowLength = inr (λ e. omega arith, refl)
+three-tells (R.RowRecord k) = inl (refl, λ before. refl)
+three-tells R.Slot = inr (λ e. omega arith, refl)
+three-tells R.OddPc = inr (λ e. omega arith, refl)
+three-tells R.Room = inr (λ e. omega arith, refl)
+three-tells R.NoInstruction = inr (λ e. omega arith, refl)
+three-tells R.Field = inr (λ e. omega arith, refl)
+three-tells R.NoShortForm = inr (λ e. omega arith, refl)
+three-tells R.Unreadable = inr (λ e. omega arith, refl)
+three-tells R.NumberNotAllowed = inr (λ e. omega arith, refl)
+three-tells R.NoShortLine = inr (λ e. omega arith, refl)
+three-tells R.OutputRoom = inr (λ e. omega arith, refl)
+three-tells R.StopNumber = inr (λ e. omega arith, refl)
+three-tells R.RecordEnd = inr (λ e. omega arith, refl)
 
 -- ---- stops, from 1
 

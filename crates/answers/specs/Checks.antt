@@ -3,7 +3,10 @@ use mathlib.Core.Bool.{Bool, cond}
 use Rattle.answers.specs.declared.Refusal.{Refusal}
 use Rattle.answers.specs.declared.Check.{Check}
 use Rattle.answers.specs.declared.Check.the-variants.{Passed, Refused}
+use Prim.Native.Nat.{ℕ}
+use mathlib.Core.Option.{Option, none}
 use Rattle.answers.specs.Answer.{Answer, given, refused}
+use Rattle.answers.specs.Refusals.{wordOf}
 
 -- refused with r unless the test holds; then the tests that follow decide
 abbrev pub unless : Bool → Refusal → Check → Check
@@ -13,3 +16,8 @@ unless test r rest = cond test rest (Refused r)
 abbrev pub ofCheck : {A : Type 0} → Check → A → Answer A
 ofCheck Passed a = given a
 ofCheck (Refused r) a = refused r
+
+-- the word that is told, where it is refused with 3
+abbrev pub wordTold : Check → Option ℕ
+wordTold Passed = none
+wordTold (Refused r) = wordOf r

@@ -1,15 +1,17 @@
 // The refusals and the stops of the paper, and the number that each has. The shape of every entry is
 // in specs/.
 ghost use mathlib.Core.Path.{_≡_};
-ghost use Rattle.answers.specs.Refusals.{numberOf};
+ghost use Rattle.answers.specs.Refusals.{numberOf, wordOf};
+ghost use Rattle.answers.specs.Replies.{placed};
 ghost use Rattle.answers.specs.Stops.{stopNumber};
 
 pub enum Refusal {
     MemoryTooLong,
     RowLength,
-    RowRecord,
+    // the lowest word whose record breaks the rules
+    RowRecord(u8),
     Slot,
-    State,
+    OddPc,
     Room,
     NoInstruction,
     Field,
@@ -18,6 +20,8 @@ pub enum Refusal {
     NumberNotAllowed,
     NoShortLine,
     OutputRoom,
+    StopNumber,
+    RecordEnd,
 }
 
 impl Refusal {
@@ -27,9 +31,9 @@ impl Refusal {
         match self {
             Refusal::MemoryTooLong => 1,
             Refusal::RowLength => 2,
-            Refusal::RowRecord => 3,
+            Refusal::RowRecord(_) => 3,
             Refusal::Slot => 4,
-            Refusal::State => 5,
+            Refusal::OddPc => 5,
             Refusal::Room => 6,
             Refusal::NoInstruction => 7,
             Refusal::Field => 8,
@@ -38,6 +42,31 @@ impl Refusal {
             Refusal::NumberNotAllowed => 11,
             Refusal::NoShortLine => 12,
             Refusal::OutputRoom => 13,
+            Refusal::StopNumber => 14,
+            Refusal::RecordEnd => 15,
+        }
+    }
+
+    // The word that refusal 3 tells; 0 where none is told.
+    pub fn word(self) -> u8
+        ensures { λ r. ⌜ r ≡ placed (wordOf self) 0 ⌝ }
+    {
+        match self {
+            Refusal::MemoryTooLong => 0,
+            Refusal::RowLength => 0,
+            Refusal::RowRecord(k) => k,
+            Refusal::Slot => 0,
+            Refusal::OddPc => 0,
+            Refusal::Room => 0,
+            Refusal::NoInstruction => 0,
+            Refusal::Field => 0,
+            Refusal::NoShortForm => 0,
+            Refusal::Unreadable => 0,
+            Refusal::NumberNotAllowed => 0,
+            Refusal::NoShortLine => 0,
+            Refusal::OutputRoom => 0,
+            Refusal::StopNumber => 0,
+            Refusal::RecordEnd => 0,
         }
     }
 }

@@ -12,7 +12,7 @@ use Rattle.answers.specs.declared.Check.the-variants.{Passed, Refused}
 use Rattle.word.specs.Bits.{low}
 use Rattle.octets.specs.Bytes.{store}
 use Rattle.octets.proofs.Bytes.{length-store, store-below}
-use Rattle.fuses.specs.Row.{allKeep, Row, burnt}
+use Rattle.fuses.specs.Row.{allKeep, lowestBad, Row, burnt}
 use Rattle.fuses.proofs.Burning.{row-burnt, burnt-below}
 use Rattle.boards.specs.Boards.{Board, board, BoardFits, boardChecked, longestMemory}
 
@@ -23,17 +23,17 @@ pub record Lendable (b : Board) : Type 0 where
 
 module _ (b : Board) (rest : Check) where
   pub board-refused : {r : Refusal} → boardChecked b Passed ≡ Refused r → boardChecked b rest ≡ Refused r
-  board-refused e = refused-on (leb (length (b .mem)) longestMemory) MemoryTooLong (refused-on (eqb (length (b .row)) 512) RowLength (refused-on (allKeep 64 (b .row)) RowRecord (λ z. cc))) e
+  board-refused e = refused-on (leb (length (b .mem)) longestMemory) MemoryTooLong (refused-on (eqb (length (b .row)) 512) RowLength (refused-on (allKeep 64 (b .row)) (RowRecord (lowestBad 64 (b .row))) (λ z. cc))) e
 
   pub board-passed : boardChecked b Passed ≡ Passed → boardChecked b rest ≡ rest
-  board-passed e = passed-on (leb (length (b .mem)) longestMemory) MemoryTooLong (passed-on (eqb (length (b .row)) 512) RowLength (passed-on (allKeep 64 (b .row)) RowRecord (λ z. refl))) e
+  board-passed e = passed-on (leb (length (b .mem)) longestMemory) MemoryTooLong (passed-on (eqb (length (b .row)) 512) RowLength (passed-on (allKeep 64 (b .row)) (RowRecord (lowestBad 64 (b .row))) (λ z. refl))) e
 
   -- where all passed, so did the rest
   pub board-accepted : boardChecked b rest ≡ Passed → Lendable b × (rest ≡ Passed)
   board-accepted e =
       let m = both-passed (leb (length (b .mem)) longestMemory) MemoryTooLong _ e in
       let l = both-passed (eqb (length (b .row)) 512) RowLength _ (m .1) in
-      let r = both-passed (allKeep 64 (b .row)) RowRecord rest (l .1) in
+      let r = both-passed (allKeep 64 (b .row)) (RowRecord (lowestBad 64 (b .row))) rest (l .1) in
       (record { short = leb-true _ _ (m .0); row = (eqb-true _ _ (l .0), r .0) }, r .1)
 
   pub lendable-passes : Lendable b → boardChecked b rest ≡ rest

@@ -8,10 +8,8 @@ use native.Mathlib.Omega.{arith}
 use lib.Dec.{leb}
 use lib.ListN.{length}
 use borrow.Author.Tests.{eqb-true, ltb-true}
-use Rattle.answers.proofs.Checks.{both-passed}
 use Rattle.answers.specs.declared.Cause.{Cause}
 use Rattle.answers.specs.declared.Check.the-variants.{Passed}
-use Rattle.answers.specs.declared.Refusal.the-variants as R
 use Rattle.word.proofs.Bools.{either, second}
 use Rattle.word.proofs.Scatter.{low-lt}
 use Rattle.word.proofs.Signs.{signed-lt}
@@ -22,8 +20,8 @@ use Rattle.isa.specs.Encoding.{regOk, signedOk, inRange}
 use Rattle.isa.specs.Registers.{x0}
 use Rattle.octets.specs.Widths.{widthBytes}
 use Rattle.octets.proofs.Bytes.{all-bytes}
-use Rattle.state.specs.States.{registerOf, wellFormed, stateChecked}
-use Rattle.state.proofs.Laws.{register-lt, formed-even, SoundState, SoundCause, Address, advanced-sound, halted-sound}
+use Rattle.state.specs.States.{registerOf, stateChecked}
+use Rattle.state.proofs.Laws.{register-lt, form-passes, form-passed, formed-even, SoundState, SoundCause, Address, advanced-sound, halted-sound}
 use Rattle.alu.specs.Arithmetic.{sum, takes}
 use Rattle.alu.proofs.Bounds.{arith-lt, imm-lt, shift-lt, muldiv-lt}
 use Rattle.boards.proofs.Boards.{SoundBoard, board-accepted, lendable-passes, sound-store, sound-burnt}
@@ -44,12 +42,12 @@ Runnable w = SoundState (w .st) × SoundBoard (w .board)
 
 -- it is what the entries ask, with what the types say
 pub runnable-passes : (w : World) → Runnable w → checked w ≡ Passed
-runnable-passes w g = lendable-passes (w .board) (stateChecked (w .st)) (g .1 .1) ∙ rw (g .0 .1)
+runnable-passes w g = lendable-passes (w .board) (stateChecked (w .st)) (g .1 .1) ∙ form-passes true (w .st) refl (g .0 .1)
 
 pub passes-runnable : (w : World) → Sized w → checked w ≡ Passed → Runnable w
 passes-runnable w z e =
     let b = board-accepted (w .board) (stateChecked (w .st)) e in
-    ((z .state-fits, both-passed (wellFormed (w .st)) R.State Passed (b .1) .0), (z .board-fits, b .0))
+    ((z .state-fits, form-passed true (w .st) (b .1) .1), (z .board-fits, b .0))
 
 -- ---- what a step asks for
 

@@ -33,13 +33,18 @@ unfoldable pub allKeep : ℕ → List ℕ → Bool
 allKeep zero row = true
 allKeep (suc n) row = allKeep n row && keepsRules n row
 
+-- the lowest of the first n words whose record breaks the rules; n where none does
+unfoldable pub lowestBad : ℕ → List ℕ → ℕ
+lowestBad zero row = 0
+lowestBad (suc n) row = cond (allKeep n row) (cond (keepsRules n row) (suc n) n) (lowestBad n row)
+
 -- these bytes are a fuse row
 abbrev pub Row : List ℕ → Type 0
 Row row = (length row ≡ 512) × (allKeep 64 row ≡ true)
 
--- refusals 2 and 3
+-- refusals 2 and 3, which tells the lowest word
 abbrev pub rowChecked : List ℕ → Check → Check
-rowChecked row rest = unless (eqb (length row) 512) RowLength (unless (allKeep 64 row) RowRecord rest)
+rowChecked row rest = unless (eqb (length row) 512) RowLength (unless (allKeep 64 row) (RowRecord (lowestBad 64 row)) rest)
 
 -- word k burnt with v: the value stored and the mark set
 unfoldable pub burnt : ℕ → ℕ → List ℕ → List ℕ

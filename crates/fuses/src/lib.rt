@@ -12,7 +12,7 @@ ghost use lib.Dec.{eqb};
 ghost use lib.ListN.{length};
 ghost use Rattle.answers.specs.Outcomes.{outcome};
 ghost use Rattle.answers.specs.declared.Check.the-variants.{Passed};
-ghost use Rattle.fuses.specs.Row.{valueAt, markAt, keepsRules, allKeep, rowChecked, burnt, wordStored};
+ghost use Rattle.fuses.specs.Row.{valueAt, markAt, keepsRules, lowestBad, rowChecked, burnt, wordStored};
 
 // What comes of a store to a word.
 pub enum Stored {
@@ -74,18 +74,19 @@ fn keeps_rules(row: &[u8], k: usize) -> bool
     ((upper == 1) & (value != 0)) | ((upper == 0) & (value == 0))
 }
 
-fn all_keep(row: &[u8]) -> bool
+// The lowest word whose record breaks the rules; 64 where none does.
+fn lowest_bad(row: &[u8]) -> usize
     requires { ⌜ length (now row) ≡ 512 ⌝ }
-    ensures { λ r. ⌜ r ≡ allKeep 64 (now (row .entry)) ⌝ }
+    ensures { λ r. ⌜ r ≡ lowestBad 64 (now (row .entry)) ⌝ }
 {
     let mut k: usize = 0;
     while k < 64 {
         if !keeps_rules(row, k) {
-            return false;
+            return k;
         }
         k += 1;
     }
-    true
+    64
 }
 
 // Whether these bytes are a fuse row: 512 of them, and every record keeps the rules.
@@ -95,8 +96,9 @@ pub fn check_row(row: &[u8]) -> Check
     if row.len() != 512 {
         return Check::Refused(Refusal::RowLength);
     }
-    if !all_keep(row) {
-        return Check::Refused(Refusal::RowRecord);
+    let word = lowest_bad(row);
+    if word < 64 {
+        return Check::Refused(Refusal::RowRecord(word as u8));
     }
     Check::Passed
 }

@@ -1,6 +1,5 @@
 // The machine: the entries that refuse bad input before the engine starts.
 use answers::Check;
-use answers::Refusal;
 use boards::check_board;
 use engine::run_steps;
 use state::State;
@@ -23,20 +22,17 @@ pub struct Ran {
     pub retired: u64,
 }
 
-// Refusals 1, 2, 3 and 5.
+// Refusals 1, 2, 3, 5, 14 and 15.
 fn check(s: State, mem: &[u8], row: &[u8]) -> Check
     ensures { λ r. ⌜ r ≡ checked (world s (board (now (mem .entry)) (now (row .entry)))) ⌝ }
 {
     if let Check::Refused(r) = check_board(mem, row) {
         return Check::Refused(r);
     }
-    if !s.is_well_formed() {
-        return Check::Refused(Refusal::State);
-    }
-    Check::Passed
+    s.check(true)
 }
 
-// One step. Refuses with 1, 2, 3 and 5.
+// One step. Refuses with 1, 2, 3, 5, 14 and 15.
 pub fn step(s: State, mem: &mut [u8], row: &mut [u8]) -> Stepped
     ensures { λ r. ⌜ outcome r (board (now (mem .exit)) (now (row .exit))) ≡ stepEntry (world s (board (now (mem .entry)) (now (row .entry)))) ⌝ }
 {
@@ -52,7 +48,7 @@ pub fn step(s: State, mem: &mut [u8], row: &mut [u8]) -> Stepped
     }
 }
 
-// A run of at most budget steps. Refuses with 1, 2, 3 and 5.
+// A run of at most budget steps. Refuses with 1, 2, 3, 5, 14 and 15.
 pub fn run(s: State, mem: &mut [u8], row: &mut [u8], budget: u64) -> Ran
     ensures { λ r. ⌜ outcome r (board (now (mem .exit)) (now (row .exit))) ≡ runEntry budget (world s (board (now (mem .entry)) (now (row .entry)))) ⌝ }
 {

@@ -2,7 +2,7 @@
 -- Assumes nothing.
 use mathlib.Core.Path.{_≡_, refl, sym, ap, ap₂, subst, _∙_}
 use mathlib.Core.Bool.{Bool, true, false}
-use mathlib.Core.Logic.{_⊎_, inl, inr}
+use mathlib.Core.Logic.{_⊎_, inl, inr, ⊎-elim}
 use mathlib.Core.List.{List, [], _∷_}
 use Prim.Native.Nat.{ℕ, _+_, _*_, _^_}
 use native.Mathlib.Omega.{arith}
@@ -20,11 +20,10 @@ use Rattle.answers.specs.declared.Check.{Check}
 use Rattle.answers.specs.declared.Check.the-variants.{Passed, Refused}
 use Rattle.word.specs.Bounds.{AllBelow}
 use Rattle.word.specs.Bits.{flag}
-use Rattle.word.proofs.Bools.{and-fails}
 use Rattle.octets.specs.Bytes.{load}
 use Rattle.state.specs.declared.State.{State}
 use Rattle.state.specs.States.{noState, wellFormed, stateChecked}
-use Rattle.state.proofs.Laws.{malformed}
+use Rattle.state.proofs.Laws.{malformed, form-passed}
 use Rattle.boards.specs.Boards.{BoardFits, boardChecked}
 use Rattle.boards.proofs.Boards.{board-refused, board-passed, board-accepted, lendable-passes}
 use Rattle.engine.specs.Steps.{World, world, checked, paused, ran, retired}
@@ -33,7 +32,7 @@ use Rattle.engine.proofs.Kept.{Runnable, runnable-passes, passes-runnable, runn
 use Rattle.machine.specs.declared.Ran.{Ran}
 use Rattle.machine.proofs.Entries.{run-accepted}
 use Rattle.machine.specs.Entries.{ranTo, runGiven, noRun, runEntry, ofRan}
-use Rattle.records.specs.Records.{recordOf, stateOf, recordSound}
+use Rattle.records.specs.Records.{recordOf, stateOf, recordChecked}
 use Rattle.records.proofs.Records.{length-record, record-sound, write-back, bytes-fit, old-record}
 use Rattle.slots.specs.Slots.{slotThere, slotAt, slotSet, writeChecked, writeEntry, ofWrite, readChecked, readTo, noRead, readEntry, ofReadBack}
 use Rattle.slots.proofs.Slots.{there-fits, slot-length, slot-set-at, take-before, drop-after, slot-same, slot-bytes, ReadsWell, reads-well, same-record, SlotHolds, holds-set, read-held, write-passes, check-was, state-was, one-slot-there, one-slot-at}
@@ -41,7 +40,7 @@ use Rattle.resume.specs.declared.Resumed.{Resumed}
 use Rattle.resume.specs.declared.Resumed.the-variants as A
 use Rattle.resume.specs.Resuming.{Bench, bench, slotWorld, benchLeft, resumeChecked, resumeGiven, resumeEntry, ofResumed}
 use Rattle.promises.specs.Cuts.{Piece, SlotsThere, leftBy, readBack, cutRun, answers, total, manual, Cut, sumAnswered, RetiredAddsUp, slotStart, slotRun, SlotRunIsRun, slotRuns, answered, slotAnswers, added, SlotRunsAddUp, SlotRunAnswers, SlotsStay, RecordOfState, StateOfRecord, NoStateOfRecord, OldRecord, OldRecordsLoad, SlotStaysFormed, WritesItsSlot}
-use Rattle.promises.specs.Refusals.{RecordMalformed}
+use Rattle.promises.specs.Refusals.{Malformed, RecordMalformed}
 use Rattle.promises.proofs.Refusals.{accepted-passes, slot-accepted-passes}
 use Rattle.promises.proofs.Steps.{no-budget, stays-stopped}
 
@@ -99,7 +98,7 @@ run-refused b k h r e =
     ap (λ c. bench (decided c (runGiven b (slotStart k h)) noRun (h .board) .lent) (writeEntry k (decided c (runGiven b (slotStart k h)) noRun (h .board) .answer .state) (h .slots) .lent)) e
     ∙ ap (bench (h .board)) (go (slotThere k (h .slots)))
   where
-    go : (t : Bool) → decided (unless t R.Slot (Refused R.State)) (outcome Passed (slotSet k (recordOf noState) (h .slots))) Refused (h .slots) .lent ≡ h .slots
+    go : (t : Bool) → decided (unless t R.Slot (Refused R.StopNumber)) (outcome Passed (slotSet k (recordOf noState) (h .slots))) Refused (h .slots) .lent ≡ h .slots
     go true = refl
     go false = refl
 
@@ -119,7 +118,7 @@ module _ (b k : ℕ) (h : Bench) where
   unread : (r : Refusal) → boardChecked (h .board) Passed ≡ Passed → readChecked k (h .slots) ≡ Refused r → Same
   unfolding decided
   unread r l e =
-      both-refused r R.State (board-passed (h .board) _ l ∙ e)
+      both-refused r R.StopNumber (board-passed (h .board) _ l ∙ e)
       (board-passed (h .board) _ l ∙ ap (λ c. stateChecked (decided c (outcome (readTo (slotWorld k h .st)) tt) noRead tt .answer .state)) e)
 
   -- the state that was read fits, for bytes are bytes
@@ -220,15 +219,18 @@ state-of-record s f h =
     go true e = e
     go false e = absurd (h (malformed s .0 e))
 
+sound-not-malformed : (r : List ℕ) → recordChecked r ≡ Passed → RecordMalformed r → ⊥
+sound-not-malformed r e m =
+    let q = form-passed (eqb (load 3 137 r) 0) (stateOf r) e in
+    ⊎-elim (λ b. omega (arith, ap flag (sym (q .1) ∙ malformed (stateOf r) .1 b))) (λ f. f (eqb-true _ _ (q .0))) m
+
 pub no-state-of-record : NoStateOfRecord
 unfolding decided
-no-state-of-record r l h =
-    let f : recordSound r ≡ false = and-fails (wellFormed (stateOf r)) (eqb (load 3 137 r) 0) (malformed (stateOf r)) (eqb-false _ _, ne-eqb _ _) .1 h in
-    rw (one-slot-there r l, one-slot-at r l, f) (inr (inl (lit< tt)))
-
-sound-not-malformed : (r : List ℕ) → recordSound r ≡ true → RecordMalformed r → ⊥
-sound-not-malformed r e m =
-    omega (arith, ap flag (sym e ∙ and-fails (wellFormed (stateOf r)) (eqb (load 3 137 r) 0) (malformed (stateOf r)) (eqb-false _ _, ne-eqb _ _) .1 m))
+no-state-of-record r l h = rw (one-slot-there r l, one-slot-at r l) (go (recordChecked r) refl)
+  where
+    go : (c : Check) → recordChecked r ≡ c → Malformed (decided c (outcome (readTo (stateOf r)) (tt {0})) noRead (tt {0}) .answer .state)
+    go Passed e = absurd (sound-not-malformed r e h)
+    go (Refused x) e = inr (inl (lit< tt))
 
 pub old-records-load : OldRecordsLoad
 unfolding decided

@@ -1,32 +1,45 @@
 -- Each entry answers by its chain of tests, and a test that fails is its row of the table; the laws of an entry's shape do the rest. Assumes nothing.
-use mathlib.Core.Path.{_≡_, refl}
+use mathlib.Core.Path.{_≡_, refl, sym, subst, _∙_}
+use mathlib.Core.Bool.{Bool, true, false, _&&_}
 use mathlib.Core.List.{List}
-use Prim.Native.Nat.{ℕ}
+use mathlib.Core.Logic.{_↔_}
+use mathlib.Core.Option.{none}
+use Prim.Native.Nat.{ℕ, _%_, _≤_, _<_}
+use native.Mathlib.Omega.{arith}
 use lib.ListN.{length}
 use lib.Dec.{eqb, leb}
-use borrow.Author.Tests.{leb-false, lt-leb, eqb-false, ne-eqb}
+use borrow.Author.Tests.{leb-false, lt-leb, eqb-true, eqb-false, eq-eqb, ne-eqb}
+use Rattle.answers.specs.Checks.{unless, wordTold}
 use Rattle.answers.specs.Order.{refusal, noRefusal}
-use Rattle.answers.proofs.Order.{Says, no-rows, then-row, all-pass}
-use Rattle.answers.proofs.Entries.{exactly, keeps-lent, silent}
+use Rattle.answers.specs.Refusals.{numberOf, wordOf}
+use Rattle.answers.specs.Stops.{lastStop}
+use Rattle.answers.proofs.Checks.{both-passed}
+use Rattle.answers.proofs.Order.{RefusedBy, Says, no-rows, then-row, all-pass}
+use Rattle.answers.proofs.Entries.{exactly, accepts, keeps-lent, tells-as, silent}
+use Rattle.answers.specs.declared.Refusal.{Refusal}
 use Rattle.answers.specs.declared.Refusal.the-variants as R
 use Rattle.answers.specs.declared.Check.{Check}
 use Rattle.answers.specs.declared.Check.the-variants.{Passed, Refused}
 use Rattle.word.proofs.Bools.{and-fails}
 use Rattle.octets.specs.Bytes.{load}
-use Rattle.fuses.specs.Row.{allKeep}
-use Rattle.fuses.proofs.Rows.{record-breaks}
+use Rattle.fuses.specs.Row.{keepsRules, allKeep, lowestBad}
+use Rattle.fuses.proofs.Rows.{record-breaks, lowest-breaks, all-below, all-keep}
 use Rattle.state.specs.declared.State.{State}
-use Rattle.state.specs.States.{wellFormed, stateChecked}
-use Rattle.state.proofs.Laws.{malformed}
+use Rattle.state.specs.States.{addressAllowed, formChecked, stateChecked}
+use Rattle.state.proofs.Laws.{odd-pc, no-stop, stray-address, form-passes, form-passed, formed-before}
 use Rattle.boards.specs.Boards.{Board, boardChecked, longestMemory}
+use Rattle.boards.proofs.Boards.{board-accepted, lendable-passes}
 use Rattle.engine.specs.Steps.{World, checked}
+use Rattle.machine.specs.declared.Stepped.{Stepped}
+use Rattle.machine.specs.declared.Ran.{Ran}
 use Rattle.machine.specs.Entries.{noStep, ofStepped, noRun, ofRan}
-use Rattle.records.specs.Records.{stateOf, recordSound}
+use Rattle.records.specs.Records.{stateOf, recordChecked}
+use Rattle.slots.specs.declared.ReadBack.{ReadBack}
 use Rattle.slots.specs.Slots.{slotThere, slotAt, writeChecked, ofWrite, readChecked, noRead, ofReadBack}
-use Rattle.slots.proofs.Slots.{no-slot}
+use Rattle.slots.proofs.Slots.{slot-is, no-slot}
 use Rattle.resume.specs.declared.Resumed.the-variants as A
-use Rattle.resume.specs.Resuming.{Bench, resumeChecked, ofResumed}
-use Rattle.promises.specs.Refusals.{Malformed, boardRows, machineRows, writeRows, readRows, resumeRows, StepRefuses, RunRefuses, WriteRefuses, ReadRefuses, ResumeRefuses, StepKeeps, RunKeeps, WriteKeeps, ResumeKeeps, NoOtherFact}
+use Rattle.resume.specs.Resuming.{Bench, resumeChecked, ofResumed, wordResumed}
+use Rattle.promises.specs.Refusals.{OddPc, NoStop, boardRows, stateRows, recordRows, machineRows, writeRows, readRows, resumeRows, StepRefuses, RunRefuses, WriteRefuses, ReadRefuses, ResumeRefuses, StepKeeps, RunKeeps, WriteKeeps, ResumeKeeps, TellsLowest, LowestWord, NoOtherFact, BoardBefore, StateBefore, SlotBefore, RecordBefore, AcceptedAsBefore}
 use Rattle.promises.specs.Steps.{Accepted}
 use Rattle.promises.specs.Cuts.{SlotAccepted}
 
@@ -36,10 +49,20 @@ board-rows : (b : Board) (rest : Check) {later : ℕ → Type 0} → Says rest l
 board-rows b rest q =
     then-row (leb (length (b .mem)) longestMemory) R.MemoryTooLong _ (leb-false _ _, lt-leb _ _)
     (then-row (eqb (length (b .row)) 512) R.RowLength _ (eqb-false _ _, ne-eqb _ _)
-    (then-row (allKeep 64 (b .row)) R.RowRecord rest (record-breaks (b .row)) q))
+    (then-row (allKeep 64 (b .row)) (R.RowRecord (lowestBad 64 (b .row))) rest (record-breaks (b .row)) q))
 
-state-row : (s : State) → Says (stateChecked s) (refusal 5 (Malformed s) noRefusal)
-state-row s = then-row (wellFormed s) R.State Passed (malformed s) no-rows
+-- a state, of a record or of none
+form-rows : (zeros : Bool) (s : State) {End : Type 0} → ((zeros && addressAllowed s) ≡ false) ↔ End
+    → Says (formChecked zeros s) (refusal 5 (OddPc s) (refusal 14 (NoStop s) (refusal 15 End noRefusal)))
+form-rows zeros s e =
+    then-row (eqb (s .pc % 2) 0) R.OddPc _ (odd-pc s)
+    (then-row (leb (s .stop) lastStop) R.StopNumber _ (no-stop s) (then-row (zeros && addressAllowed s) R.RecordEnd Passed e no-rows))
+
+state-row : (s : State) → Says (stateChecked s) (stateRows s)
+state-row s = form-rows true s (stray-address s)
+
+record-row : (r : List ℕ) → Says (recordChecked r) (recordRows r)
+record-row r = form-rows (eqb (load 3 137 r) 0) (stateOf r) (and-fails (eqb (load 3 137 r) 0) (addressAllowed (stateOf r)) (eqb-false _ _, ne-eqb _ _) (stray-address (stateOf r)))
 
 machine-rows : (w : World) → Says (checked w) (machineRows w)
 machine-rows w = board-rows (w .board) (stateChecked (w .st)) (state-row (w .st))
@@ -48,10 +71,7 @@ write-rows : (k : ℕ) (s : State) (slots : List ℕ) → Says (writeChecked k s
 write-rows k s slots = then-row (slotThere k slots) R.Slot (stateChecked s) (no-slot k slots) (state-row s)
 
 read-rows : (k : ℕ) (slots : List ℕ) → Says (readChecked k slots) (readRows k slots)
-read-rows k slots =
-    let r : List ℕ = slotAt k slots in
-    then-row (slotThere k slots) R.Slot _ (no-slot k slots)
-    (then-row (recordSound r) R.State Passed (and-fails (wellFormed (stateOf r)) (eqb (load 3 137 r) 0) (malformed (stateOf r)) (eqb-false _ _, ne-eqb _ _)) no-rows)
+read-rows k slots = then-row (slotThere k slots) R.Slot _ (no-slot k slots) (record-row (slotAt k slots))
 
 resume-rows : (k : ℕ) (h : Bench) → Says (resumeChecked k h) (resumeRows k h)
 resume-rows k h = board-rows (h .board) (readChecked k (h .slots)) (read-rows k (h .slots))
@@ -95,13 +115,101 @@ write-keeps k s slots = keeps-lent ofWrite Refused (λ r. refl) (writeChecked k 
 pub resume-keeps : ResumeKeeps
 resume-keeps b k h = keeps-lent ofResumed A.Refused (λ r. refl) (resumeChecked k h) _ _ refl
 
+-- ---- the word that 3 tells
+
+-- tests that refuse with another number, and tell no word
+abbrev Quiet : Check → Type 0
+Quiet c = (n : ℕ) → RefusedBy c n → (n ≡ 3 → ⊥) × (wordTold c ≡ none)
+
+quiet-row : (b : Bool) (r : Refusal) (rest : Check) → (numberOf r ≡ 3 → ⊥) → wordOf r ≡ none → Quiet rest → Quiet (unless b r rest)
+quiet-row true r rest f w q n h = q n h
+quiet-row false r rest f w q n h = (λ t. f (sym h ∙ t), w)
+
+quiet-form : (zeros : Bool) (s : State) → Quiet (formChecked zeros s)
+quiet-form zeros s =
+    quiet-row (eqb (s .pc % 2) 0) R.OddPc _ (λ e. omega arith) refl
+    (quiet-row (leb (s .stop) lastStop) R.StopNumber _ (λ e. omega arith) refl
+    (quiet-row (zeros && addressAllowed s) R.RecordEnd Passed (λ e. omega arith) refl (λ n h. absurd h)))
+
+quiet-read : (k : ℕ) (slots : List ℕ) → Quiet (readChecked k slots)
+quiet-read k slots =
+    quiet-row (slotThere k slots) R.Slot _ (λ e. omega arith) refl (quiet-form (eqb (load 3 137 (slotAt k slots)) 0) (stateOf (slotAt k slots)))
+
+-- a board is refused with 3 for its lowest word
+board-tells : (b : Board) (rest : Check) → Quiet rest → (n : ℕ) → RefusedBy (boardChecked b rest) n → TellsLowest b n (wordTold (boardChecked b rest))
+board-tells b rest quiet n = go (leb (length (b .mem)) longestMemory) (eqb (length (b .row)) 512) (allKeep 64 (b .row)) refl
+  where
+    other : (c : Check) → (n ≡ 3 → ⊥) × (wordTold c ≡ none) → TellsLowest b n (wordTold c)
+    other c q = (λ t. absurd (q .0 t), λ t. q .1)
+
+    go : (m l k : Bool) → allKeep 64 (b .row) ≡ k → RefusedBy (unless m R.MemoryTooLong (unless l R.RowLength (unless k (R.RowRecord (lowestBad 64 (b .row))) rest))) n
+        → TellsLowest b n (wordTold (unless m R.MemoryTooLong (unless l R.RowLength (unless k (R.RowRecord (lowestBad 64 (b .row))) rest))))
+    go false l k a q = other (Refused R.MemoryTooLong) (λ t. omega arith, refl)
+    go true false k a q = other (Refused R.RowLength) (λ t. omega arith, refl)
+    go true true false a q =
+        let s = lowest-breaks 64 (b .row) a in
+        (λ t. (lowestBad 64 (b .row), refl, s .within, s .breaks, λ j h. all-below (lowestBad 64 (b .row)) j (b .row) (s .below) h), λ f. absurd (f q))
+    go true true true a q = other rest (quiet n q)
+
+pub lowest-word : LowestWord
+lowest-word = (
+  λ w n e.
+      let q = tells-as ofStepped noStep (λ r. refl) (λ (r : Stepped). wordTold (r .check)) (λ r. refl) (checked w) _ _ n refl e in
+      subst (TellsLowest (w .board) n) (sym (q .1)) (board-tells (w .board) _ (quiet-form true (w .st)) n (q .0)),
+  λ b w n e.
+      let q = tells-as ofRan noRun (λ r. refl) (λ (r : Ran). wordTold (r .check)) (λ r. refl) (checked w) _ _ n refl e in
+      subst (TellsLowest (w .board) n) (sym (q .1)) (board-tells (w .board) _ (quiet-form true (w .st)) n (q .0)),
+  λ b k h n e.
+      let q = tells-as ofResumed A.Refused (λ r. refl) wordResumed (λ r. refl) (resumeChecked k h) _ _ n refl e in
+      subst (TellsLowest (h .board) n) (sym (q .1)) (board-tells (h .board) _ (quiet-read k (h .slots)) n (q .0)),
+)
+
+-- ---- what is accepted
+
+iff-then : {P Q R : Type 0} → P ↔ Q → Q ↔ R → P ↔ R
+iff-then f g = (λ p. g .0 (f .0 p), λ r. f .1 (g .1 r))
+
+board-before : (b : Board) (rest : Check) {After : Type 0} → (rest ≡ Passed) ↔ After → (boardChecked b rest ≡ Passed) ↔ (BoardBefore b × After)
+board-before b rest q = (
+  λ e. let l = board-accepted b rest e in ((l .0 .short, l .0 .row .0, λ k h. all-below 64 k (b .row) (l .0 .row .1) h), q .0 (l .1)),
+  λ h. lendable-passes b rest (record { short = h .0 .0; row = (h .0 .1, all-keep 64 (b .row) (h .0 .2)) }) ∙ q .1 (h .1),
+)
+
+state-before : (s : State) → (stateChecked s ≡ Passed) ↔ StateBefore s
+state-before s = iff-then (λ e. form-passed true s e .1, λ w. form-passes true s refl w) (formed-before s)
+
+record-before : (r : List ℕ) → (recordChecked r ≡ Passed) ↔ RecordBefore r
+record-before r = (
+  λ e. let q = form-passed (eqb (load 3 137 r) 0) (stateOf r) e in (eqb-true _ _ (q .0), formed-before (stateOf r) .0 (q .1)),
+  λ h. form-passes (eqb (load 3 137 r) 0) (stateOf r) (eq-eqb _ _ (h .0)) (formed-before (stateOf r) .1 (h .1)),
+)
+
+slot-before : (k : ℕ) (slots : List ℕ) (rest : Check) {After : Type 0} → (rest ≡ Passed) ↔ After
+    → (unless (slotThere k slots) R.Slot rest ≡ Passed) ↔ (SlotBefore k slots × After)
+slot-before k slots rest q = (
+  λ e. let t = both-passed (slotThere k slots) R.Slot rest e in (slot-is k slots .0 (t .0), q .0 (t .1)),
+  λ h. rw (slot-is k slots .1 (h .0)) (q .1 (h .1)),
+)
+
+read-before : (k : ℕ) (slots : List ℕ) → (readChecked k slots ≡ Passed) ↔ (SlotBefore k slots × RecordBefore (slotAt k slots))
+read-before k slots = slot-before k slots _ (record-before (slotAt k slots))
+
+pub accepted-as-before : AcceptedAsBefore
+accepted-as-before = (
+  λ w. iff-then (accepts ofStepped noStep (λ r. refl) (checked w) _ _ refl) (board-before (w .board) _ (state-before (w .st))),
+  λ b w. iff-then (accepts ofRan noRun (λ r. refl) (checked w) _ _ refl) (board-before (w .board) _ (state-before (w .st))),
+  λ k s slots. iff-then (accepts ofWrite Refused (λ r. refl) (writeChecked k s slots) _ _ refl) (slot-before k slots _ (state-before s)),
+  λ k slots. iff-then (accepts ofReadBack noRead (λ r. refl) (readChecked k slots) _ _ refl) (read-before k slots),
+  λ b k h. iff-then (accepts ofResumed A.Refused (λ r. refl) (resumeChecked k h) _ _ refl) (board-before (h .board) _ (read-before k (h .slots))),
+)
+
 -- ---- no other fact
 
 pub no-other-fact : NoOtherFact
 no-other-fact = (
-  silent ofStepped noStep (λ r. refl) checked _ (λ w. w .board) _ (λ w. refl),
-  silent ofRan noRun (λ r. refl) (λ i. checked (i .1)) _ (λ i. i .1 .board) _ (λ i. refl),
-  silent ofWrite Refused (λ r. refl) (λ i. writeChecked (i .0) (i .1) (i .2)) _ (λ i. i .2) _ (λ i. refl),
-  silent ofReadBack noRead (λ r. refl) (λ i. readChecked (i .0) (i .1)) _ (λ i. tt) _ (λ i. refl),
-  silent ofResumed A.Refused (λ r. refl) (λ i. resumeChecked (i .1) (i .2)) _ (λ i. i .2) _ (λ i. refl),
+  silent ofStepped noStep (λ r. refl) (λ (r : Stepped). wordTold (r .check)) (λ r. refl) checked _ (λ w. w .board) _ (λ w. refl),
+  silent ofRan noRun (λ r. refl) (λ (r : Ran). wordTold (r .check)) (λ r. refl) (λ i. checked (i .1)) _ (λ i. i .1 .board) _ (λ i. refl),
+  silent ofWrite Refused (λ r. refl) wordTold (λ r. refl) (λ i. writeChecked (i .0) (i .1) (i .2)) _ (λ i. i .2) _ (λ i. refl),
+  silent ofReadBack noRead (λ r. refl) (λ (r : ReadBack). wordTold (r .check)) (λ r. refl) (λ i. readChecked (i .0) (i .1)) _ (λ i. tt) _ (λ i. refl),
+  silent ofResumed A.Refused (λ r. refl) wordResumed (λ r. refl) (λ i. resumeChecked (i .1) (i .2)) _ (λ i. i .2) _ (λ i. refl),
 )

@@ -149,7 +149,7 @@ RecordOfState = (r : List ℕ) → AllBelow (2 ^ 8) r → length r ≡ 144 → (
 abbrev pub StateOfRecord : Type 0
 StateOfRecord = (s : State) → Fits s → (Malformed s → ⊥) → ofReadBack (readEntry 0 (recordOf s) .answer) ≡ given s
 
--- one that is malformed reads as a state that is malformed, so that whatever takes a state refuses it with 5
+-- one that is malformed reads as a state that is malformed, so that whatever takes a state refuses it
 abbrev pub NoStateOfRecord : Type 0
 NoStateOfRecord = (r : List ℕ) → length r ≡ 144 → RecordMalformed r → Malformed (readEntry 0 r .answer .state)
 

@@ -1,12 +1,16 @@
 -- Demand 1 for the machine, the part and the slots: each refusal exactly if its row of the paper's table holds and no earlier one does, every lent byte kept, and no other fact returned.
 -- Each statement is proved in proofs/Refusals.antt.
 use mathlib.Core.Path.{_≡_}
-use mathlib.Core.Bool.{false}
-use mathlib.Core.Logic.{_⊎_}
+use mathlib.Core.Bool.{true, false}
+use mathlib.Core.Logic.{_↔_, _⊎_}
+use mathlib.Core.Option.{Option, none, some}
 use mathlib.Core.List.{List}
 use Prim.Native.Nat.{ℕ, _%_, _/_, _≤_, _<_}
 use lib.ListN.{length}
 use Rattle.answers.specs.Stops.{lastStop, HasNoAddress}
+use Rattle.answers.specs.Answer.{Answer, refusedWith}
+use Rattle.answers.specs.Checks.{wordTold}
+use Rattle.answers.specs.Outcomes.{Outcome}
 use Rattle.answers.specs.Order.{refusal, noRefusal}
 use Rattle.answers.specs.Entries.{Refuses, Keeps, Silent}
 use Rattle.octets.specs.Bytes.{load}
@@ -14,10 +18,13 @@ use Rattle.fuses.specs.Row.{keepsRules}
 use Rattle.state.specs.declared.State.{State}
 use Rattle.boards.specs.Boards.{Board, longestMemory}
 use Rattle.engine.specs.Steps.{World}
+use Rattle.machine.specs.declared.Stepped.{Stepped}
+use Rattle.machine.specs.declared.Ran.{Ran}
 use Rattle.machine.specs.Entries.{stepEntry, ofStepped, runEntry, ofRan}
 use Rattle.records.specs.Records.{stateOf}
+use Rattle.slots.specs.declared.ReadBack.{ReadBack}
 use Rattle.slots.specs.Slots.{slotAt, writeEntry, ofWrite, readEntry, ofReadBack}
-use Rattle.resume.specs.Resuming.{Bench, resumeEntry, ofResumed}
+use Rattle.resume.specs.Resuming.{Bench, resumeEntry, ofResumed, wordResumed}
 
 -- ---- the rows of the table
 
@@ -37,11 +44,26 @@ RecordBreaks b = (k : ℕ) × (k < 64) × (keepsRules k (b .row) ≡ false)
 abbrev pub NoSlot : ℕ → List ℕ → Type 0
 NoSlot k slots = (length slots % 144 ≡ 0 → ⊥) ⊎ (length slots / 144 ≤ k)
 
--- 5: state malformed: an odd pc, a stop number above 10, or an address that is not zero with a stop that has none
-abbrev pub Malformed : State → Type 0
-Malformed s = (s .pc % 2 ≡ 1) ⊎ (lastStop < s .stop) ⊎ (HasNoAddress (s .stop) × (s .address ≡ 0 → ⊥))
+-- 5: an odd pc
+abbrev pub OddPc : State → Type 0
+OddPc s = s .pc % 2 ≡ 1
 
--- 5, on reading: also its record's bytes 137 to 139 not zero
+-- 14: a stop number out of range
+abbrev pub NoStop : State → Type 0
+NoStop s = lastStop < s .stop
+
+-- 15: an address that the stop number does not allow: it is not 3 to 9
+abbrev pub StrayAddress : State → Type 0
+StrayAddress s = ((s .stop < 3) ⊎ (9 < s .stop)) × (s .address ≡ 0 → ⊥)
+
+-- 15, on reading: bytes 137 to 143 break their rules: 137 to 139 are not zero, or 140 to 143 are such an address
+abbrev pub EndBreaks : List ℕ → Type 0
+EndBreaks r = (load 3 137 r ≡ 0 → ⊥) ⊎ StrayAddress (stateOf r)
+
+-- malformed by one of them
+abbrev pub Malformed : State → Type 0
+Malformed s = OddPc s ⊎ NoStop s ⊎ StrayAddress s
+
 abbrev pub RecordMalformed : List ℕ → Type 0
 RecordMalformed r = Malformed (stateOf r) ⊎ (load 3 137 r ≡ 0 → ⊥)
 
@@ -51,15 +73,22 @@ RecordMalformed r = Malformed (stateOf r) ⊎ (load 3 137 r ≡ 0 → ⊥)
 abbrev pub boardRows : Board → (ℕ → Type 0) → ℕ → Type 0
 boardRows b later = refusal 1 (TooLong b) (refusal 2 (NotARow b) (refusal 3 (RecordBreaks b) later))
 
+-- those of a state, and of a record
+abbrev pub stateRows : State → ℕ → Type 0
+stateRows s = refusal 5 (OddPc s) (refusal 14 (NoStop s) (refusal 15 (StrayAddress s) noRefusal))
+
+abbrev pub recordRows : List ℕ → ℕ → Type 0
+recordRows r = refusal 5 (OddPc (stateOf r)) (refusal 14 (NoStop (stateOf r)) (refusal 15 (EndBreaks r) noRefusal))
+
 -- those of step and run
 abbrev pub machineRows : World → ℕ → Type 0
-machineRows w = boardRows (w .board) (refusal 5 (Malformed (w .st)) noRefusal)
+machineRows w = boardRows (w .board) (stateRows (w .st))
 
 abbrev pub writeRows : ℕ → State → List ℕ → ℕ → Type 0
-writeRows k s slots = refusal 4 (NoSlot k slots) (refusal 5 (Malformed s) noRefusal)
+writeRows k s slots = refusal 4 (NoSlot k slots) (stateRows s)
 
 abbrev pub readRows : ℕ → List ℕ → ℕ → Type 0
-readRows k slots = refusal 4 (NoSlot k slots) (refusal 5 (RecordMalformed (slotAt k slots)) noRefusal)
+readRows k slots = refusal 4 (NoSlot k slots) (recordRows (slotAt k slots))
 
 abbrev pub resumeRows : ℕ → Bench → ℕ → Type 0
 resumeRows k h = boardRows (h .board) (readRows k (h .slots))
@@ -95,12 +124,56 @@ WriteKeeps = (k : ℕ) (s : State) (slots : List ℕ) → Keeps ofWrite (writeEn
 abbrev pub ResumeKeeps : Type 0
 ResumeKeeps = (b k : ℕ) (h : Bench) → Keeps ofResumed (resumeEntry b k h) h
 
--- ---- a refusal returns its number and no other fact
+-- ---- the word that 3 tells
+
+-- of a board that is refused with 3, the lowest word whose record breaks the rules; with any other number none
+abbrev pub TellsLowest : Board → ℕ → Option ℕ → Type 0
+TellsLowest b n told =
+    (n ≡ 3 → (k : ℕ) × (told ≡ some k) × (k < 64) × (keepsRules k (b .row) ≡ false) × ((j : ℕ) → j < k → keepsRules j (b .row) ≡ true))
+    × ((n ≡ 3 → ⊥) → told ≡ none)
+
+abbrev pub LowestWord : Type 0
+LowestWord =
+    ((w : World) (n : ℕ) → ofStepped (stepEntry w .answer) ≡ refusedWith n → TellsLowest (w .board) n (wordTold (stepEntry w .answer .check)))
+    × ((b : ℕ) (w : World) (n : ℕ) → ofRan (runEntry b w .answer) ≡ refusedWith n → TellsLowest (w .board) n (wordTold (runEntry b w .answer .check)))
+    × ((b k : ℕ) (h : Bench) (n : ℕ) → ofResumed (resumeEntry b k h .answer) ≡ refusedWith n → TellsLowest (h .board) n (wordResumed (resumeEntry b k h .answer)))
+
+-- ---- a refusal returns its number and no other fact, but for that word
 
 abbrev pub NoOtherFact : Type 0
 NoOtherFact =
-    Silent ofStepped stepEntry
-    × Silent ofRan (λ (i : ℕ × World). runEntry (i .0) (i .1))
-    × Silent ofWrite (λ (i : ℕ × State × List ℕ). writeEntry (i .0) (i .1) (i .2))
-    × Silent ofReadBack (λ (i : ℕ × List ℕ). readEntry (i .0) (i .1))
-    × Silent ofResumed (λ (i : ℕ × ℕ × Bench). resumeEntry (i .0) (i .1) (i .2))
+    Silent ofStepped (λ (r : Stepped). wordTold (r .check)) stepEntry
+    × Silent ofRan (λ (r : Ran). wordTold (r .check)) (λ (i : ℕ × World). runEntry (i .0) (i .1))
+    × Silent ofWrite wordTold (λ (i : ℕ × State × List ℕ). writeEntry (i .0) (i .1) (i .2))
+    × Silent ofReadBack (λ (r : ReadBack). wordTold (r .check)) (λ (i : ℕ × List ℕ). readEntry (i .0) (i .1))
+    × Silent ofResumed wordResumed (λ (i : ℕ × ℕ × Bench). resumeEntry (i .0) (i .1) (i .2))
+
+-- ---- what is accepted is what was accepted when 5 stood for 5, 14 and 15
+
+-- a board: memory of at most 65,536 bytes, a row of 512, and each record keeps the rules
+abbrev pub BoardBefore : Board → Type 0
+BoardBefore b = (length (b .mem) ≤ 65536) × (length (b .row) ≡ 512) × ((k : ℕ) → k < 64 → keepsRules k (b .row) ≡ true)
+
+-- a state: an even pc, a stop number of at most 10, and no address with stop 0, 1, 2 or 10
+abbrev pub StateBefore : State → Type 0
+StateBefore s = (s .pc % 2 ≡ 0) × (s .stop ≤ 10) × (HasNoAddress (s .stop) → s .address ≡ 0)
+
+-- a slot that is there
+abbrev pub SlotBefore : ℕ → List ℕ → Type 0
+SlotBefore k slots = (length slots % 144 ≡ 0) × (k < length slots / 144)
+
+-- its record: that of such a state, with bytes 137 to 139 zero
+abbrev pub RecordBefore : List ℕ → Type 0
+RecordBefore r = (load 3 137 r ≡ 0) × StateBefore (stateOf r)
+
+-- it is refused with no number exactly if so
+abbrev pub AcceptedIf : {A B C : Type 0} → (A → Answer C) → Outcome A B → Type 0 → Type 0
+AcceptedIf read o Holds = ((n : ℕ) → read (o .answer) ≡ refusedWith n → ⊥) ↔ Holds
+
+abbrev pub AcceptedAsBefore : Type 0
+AcceptedAsBefore =
+    ((w : World) → AcceptedIf ofStepped (stepEntry w) (BoardBefore (w .board) × StateBefore (w .st)))
+    × ((b : ℕ) (w : World) → AcceptedIf ofRan (runEntry b w) (BoardBefore (w .board) × StateBefore (w .st)))
+    × ((k : ℕ) (s : State) (slots : List ℕ) → AcceptedIf ofWrite (writeEntry k s slots) (SlotBefore k slots × StateBefore s))
+    × ((k : ℕ) (slots : List ℕ) → AcceptedIf ofReadBack (readEntry k slots) (SlotBefore k slots × RecordBefore (slotAt k slots)))
+    × ((b k : ℕ) (h : Bench) → AcceptedIf ofResumed (resumeEntry b k h) (BoardBefore (h .board) × (SlotBefore k (h .slots) × RecordBefore (slotAt k (h .slots)))))

@@ -8,7 +8,7 @@ use Rattle.answers.proofs.Order.{apart}
 use Rattle.promises_codes.specs.Instructions.{RefusalNumbers, StopNumbers, Replies}
 
 pub refusal-numbers : RefusalNumbers
-refusal-numbers = (λ r. (refusal-numbered r .1, refusal-numbered r .2), λ r s e. number-of-one e)
+refusal-numbers = (λ r. (refusal-numbered r .1, refusal-numbered r .2), λ r s e w. number-of-one e w)
 
 pub stop-numbers : StopNumbers
 stop-numbers = (λ s. (stop-numbered s .1, stop-numbered s .2), λ s t e. stop-of-one e)

@@ -6,7 +6,7 @@ use mathlib.Core.Logic.{_↔_, _⊎_}
 use Prim.Native.Nat.{ℕ, _%_, _^_, _≤_, _<_}
 use Rattle.answers.specs.declared.Refusal.{Refusal}
 use Rattle.answers.specs.declared.Stop.{Stop}
-use Rattle.answers.specs.Refusals.{numberOf}
+use Rattle.answers.specs.Refusals.{numberOf, wordOf}
 use Rattle.answers.specs.Stops.{stopNumber, lastStop}
 use Rattle.answers.specs.Answer.{Answer, given, refusedWith, refused}
 use Rattle.answers.specs.Replies.{told}
@@ -119,9 +119,9 @@ ChartFilled = count filled 256 ≡ 57
 
 -- ---- the numbers themselves
 
--- every refusal's number is 1 to 13, and no two have one number
+-- every refusal's number is 1 to 15, and no two have one number, but for the word that 3 tells
 abbrev pub RefusalNumbers : Type 0
-RefusalNumbers = ((r : Refusal) → (1 ≤ numberOf r) × (numberOf r ≤ 13)) × ((r s : Refusal) → numberOf r ≡ numberOf s → r ≡ s)
+RefusalNumbers = ((r : Refusal) → (1 ≤ numberOf r) × (numberOf r ≤ 15)) × ((r s : Refusal) → numberOf r ≡ numberOf s → wordOf r ≡ wordOf s → r ≡ s)
 
 -- every stop's number is 1 to 10, and no two have one number
 abbrev pub StopNumbers : Type 0

@@ -14,10 +14,12 @@ use Rattle.state.specs.declared.State.{State}
 use Rattle.word.specs.Bounds.{AllBelow}
 use Rattle.state.specs.Sizes.{Fits}
 use Rattle.state.specs.States.{state, wellFormed}
-use Rattle.state.proofs.Laws.{formed-nowhere}
+use Rattle.state.proofs.Laws.{formed-nowhere, form-passes}
+use Rattle.answers.specs.declared.Check.the-variants.{Passed}
+use lib.Dec.{eqb}
 use Rattle.answers.specs.Stops.{lastStop}
 use Rattle.word.proofs.Bounds.{below-drop}
-use Rattle.records.specs.Records.{words, ofWords, recordOf, stateOf, recordSound}
+use Rattle.records.specs.Records.{words, ofWords, recordOf, stateOf, recordChecked}
 
 -- ---- writing
 
@@ -156,9 +158,9 @@ read-back s h =
     ∙ mod-eq-of-lt (h .address-fits) in
     rw (pc, x, count, stop, address)
 
--- it is sound where its state is well-formed
-pub record-sound : (s : State) → Fits s → wellFormed s ≡ true → recordSound (recordOf s) ≡ true
-record-sound s h w = rw (read-back s h, w, rest-zero s (h .x-length))
+-- it may be read where its state is well-formed
+pub record-sound : (s : State) → Fits s → wellFormed s ≡ true → recordChecked (recordOf s) ≡ Passed
+record-sound s h w = rw (read-back s h) (form-passes (eqb (load 3 137 (recordOf s)) 0) s (rw (rest-zero s (h .x-length))) w)
 
 -- ---- bytes read and written back
 
@@ -230,12 +232,12 @@ bytes-fit m h = record {
 -- ---- records whose bytes 137 to 143 are all zero
 
 pub old-record : (m : List ℕ) → length m ≡ 144 → load 4 0 m % 2 ≡ 0 → load 1 136 m ≤ lastStop → load 7 137 m ≡ 0
-    → (recordSound m ≡ true) × (stateOf m ≡ state (load 4 0 m) (ofWords 31 (drop 4 m)) (load 8 128 m) (load 1 136 m) 0)
+    → (recordChecked m ≡ Passed) × (stateOf m ≡ state (load 4 0 m) (ofWords 31 (drop 4 m)) (load 8 128 m) (load 1 136 m) 0)
 unfolding stateOf
 old-record m l even known z =
     let sum = load-add 3 4 137 m (omega arith) in
     let address : load 4 140 m ≡ 0 = omega arith in
     let rest : load 3 137 m ≡ 0 = omega arith in (
-      rw (formed-nowhere (stateOf m) even known address, rest),
+      form-passes (eqb (load 3 137 m) 0) (stateOf m) (rw rest) (formed-nowhere (stateOf m) even known address),
       ap (λ a. state (load 4 0 m) (ofWords 31 (drop 4 m)) (load 8 128 m) (load 1 136 m) a) address,
     )

@@ -1,4 +1,5 @@
 // A state as its record of 144 bytes, and back.
+use answers::Check;
 use octets::load4;
 use octets::load8;
 use state::State;
@@ -6,7 +7,7 @@ use stores::store4;
 use stores::store8;
 ghost use mathlib.Core.Path.{_≡_};
 ghost use lib.ListN.{length};
-ghost use Rattle.records.specs.Records.{recordOf, stateOf, recordSound};
+ghost use Rattle.records.specs.Records.{recordOf, stateOf, recordChecked};
 
 // A state into its record, and nothing beside it.
 pub fn write_record(part: &mut [u8], s: State)
@@ -49,10 +50,12 @@ pub fn read_record(part: &[u8]) -> State
     }
 }
 
-// Whether the record is one that may be read: a well-formed state, and zeros after its stop number.
-pub fn is_sound(part: &[u8]) -> bool
+// Whether the record may be read: refusals 5, 14 and 15.
+pub fn check_record(part: &[u8]) -> Check
     requires { ⌜ length (now part) ≡ 144 ⌝ }
-    ensures { λ r. ⌜ r ≡ recordSound (now (part .entry)) ⌝ }
+    ensures { λ r. ⌜ r ≡ recordChecked (now (part .entry)) ⌝ }
 {
-    read_record(part).is_well_formed() & (load4(part, 136) / 256 == 0)
+    // the stop number, and three bytes after it
+    let zeros = load4(part, 136) / 256 == 0;
+    read_record(part).check(zeros)
 }

@@ -1,7 +1,9 @@
--- Running slot k: refusals 1 to 5. The state is read, run, and written back.
+-- Running slot k: refusals 1 to 5, 14 and 15. The state is read, run, and written back.
 use Prim.Native.Nat.{ℕ}
 use mathlib.Core.List.{List}
+use mathlib.Core.Option.{Option, none}
 use Rattle.answers.specs.Answer.{Answer, given, refused}
+use Rattle.answers.specs.Refusals.{wordOf}
 use Rattle.answers.specs.Outcomes.{Outcome, outcome, decided}
 use Rattle.answers.specs.declared.Check.{Check}
 use Rattle.boards.specs.Boards.{Board, boardChecked}
@@ -40,3 +42,8 @@ resumeEntry budget k h = decided (resumeChecked k h) (resumeGiven budget k h) A.
 abbrev pub ofResumed : Resumed → Answer ℕ
 ofResumed (A.Retired n) = given n
 ofResumed (A.Refused r) = refused r
+
+-- the word that refusal 3 tells
+abbrev pub wordResumed : Resumed → Option ℕ
+wordResumed (A.Retired n) = none
+wordResumed (A.Refused r) = wordOf r

@@ -16,7 +16,7 @@ pub enum Resumed {
     Refused(Refusal),
 }
 
-// Reads slot k, runs it for at most budget steps and writes it back. Refuses with 1 to 5.
+// Reads slot k, runs it for at most budget steps and writes it back. Refuses with 1 to 5, 14 and 15.
 pub fn run_slot(mem: &mut [u8], row: &mut [u8], slots: &mut [u8], k: usize, budget: u64) -> Resumed
     ensures { λ r. ⌜ outcome r (bench (board (now (mem .exit)) (now (row .exit))) (now (slots .exit))) ≡ resumeEntry budget k (bench (board (now (mem .entry)) (now (row .entry))) (now (slots .entry))) ⌝ }
 {

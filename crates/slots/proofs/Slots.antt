@@ -1,5 +1,5 @@
 -- Slots: bytes set in a slot are there, the buffer keeps its length, and the later of two settings stands; which slots are refused, and what a slot holds that reads well. Assumes nothing.
-use Prim.Native.Nat.{ℕ, _+_, _-_, _*_, _/_, _%_, _^_, _≤_}
+use Prim.Native.Nat.{ℕ, _+_, _-_, _*_, _/_, _%_, _^_, _≤_, _<_}
 use native.Mathlib.Omega.{arith}
 use mathlib.Core.Path.{_≡_, refl, sym, ap, _∙_}
 use mathlib.Core.Bool.{Bool, true, false, not, and-eq-true-iff}
@@ -8,7 +8,7 @@ use mathlib.Core.List.{List, _++_, append-assoc}
 use lib.ListN.{length, take, drop, length-append, length-take, length-drop, take-append-drop}
 use lib.Seq.{length-take-le, take-add, take-at, drop-at, take-all}
 use lib.Dec.{eqb, ltb}
-use borrow.Author.Tests.{eqb-true, eqb-false, ne-eqb, ltb-true, ltb-false, le-ltb, not-false}
+use borrow.Author.Tests.{eqb-true, eqb-false, eq-eqb, ne-eqb, ltb-true, ltb-false, lt-ltb, le-ltb, not-false}
 use Rattle.word.specs.Bounds.{AllBelow}
 use Rattle.word.proofs.Bools.{and-right, and-fails, is-true, holds}
 use Rattle.word.proofs.Bounds.{below-take, below-drop}
@@ -21,8 +21,9 @@ use Rattle.octets.specs.Bytes.{load}
 use Rattle.state.specs.declared.State.{State}
 use Rattle.state.specs.Sizes.{Fits}
 use Rattle.state.specs.States.{wellFormed}
-use Rattle.records.specs.Records.{recordOf, stateOf, recordSound}
-use Rattle.records.proofs.Records.{length-record, rest-zero, read-back, write-back}
+use Rattle.state.proofs.Laws.{form-passes, form-passed}
+use Rattle.records.specs.Records.{recordOf, stateOf}
+use Rattle.records.proofs.Records.{length-record, record-sound, read-back, write-back}
 use Rattle.slots.specs.declared.ReadBack.{ReadBack}
 use Rattle.slots.specs.Slots.{slotThere, slotAt, slotSet, writeEntry, readChecked, readTo, noRead, readEntry}
 
@@ -77,6 +78,14 @@ module _ (r : List ℕ) (l : length r ≡ 144) where
   pub one-slot-at : slotAt 0 r ≡ r
   one-slot-at = take-all 144 r (omega (arith, l))
 
+-- ---- which slots are there
+
+pub slot-is : (k : ℕ) (slots : List ℕ) → (slotThere k slots ≡ true) ↔ ((length slots % 144 ≡ 0) × (k < length slots / 144))
+slot-is k slots = (
+  λ e. let t = and-eq-true-iff (eqb (length slots % 144) 0) (ltb k (length slots / 144)) .0 e in (eqb-true _ _ (t .0), ltb-true _ _ (t .1)),
+  λ h. rw (eq-eqb (length slots % 144) 0 (h .0), lt-ltb k (length slots / 144) (h .1)),
+)
+
 -- ---- which slots are refused
 
 pub no-slot : (k : ℕ) (slots : List ℕ) → (slotThere k slots ≡ false) ↔ ((length slots % 144 ≡ 0 → ⊥) ⊎ (length slots / 144 ≤ k))
@@ -92,8 +101,8 @@ pub reads-well : (k : ℕ) (slots : List ℕ) → readChecked k slots ≡ Passed
 reads-well k slots e =
     let part : List ℕ = slotAt k slots in
     let t = both-passed (slotThere k slots) R.Slot _ e in
-    let s = and-eq-true-iff (wellFormed (stateOf part)) (eqb (load 3 137 part) 0) .0 (both-passed (recordSound part) R.State Passed (t .1) .0) in
-    record { there = t .0; formed = s .0; rest = eqb-true _ _ (s .1) }
+    let s = form-passed (eqb (load 3 137 part) 0) (stateOf part) (t .1) in
+    record { there = t .0; formed = s .1; rest = eqb-true _ _ (s .0) }
 
 pub slot-length : (k : ℕ) (slots : List ℕ) → slotThere k slots ≡ true → length (slotAt k slots) ≡ 144
 slot-length k slots t = let fits = there-fits k slots t in length-take-le 144 (drop (144 * k) slots) (rw length-drop (omega arith))
@@ -118,12 +127,11 @@ holds-set k s slots l t =
 pub read-held : (k : ℕ) (s : State) (slots : List ℕ) → SlotHolds k s slots → Fits s → wellFormed s ≡ true → readEntry k slots ≡ outcome (readTo s) tt
 unfolding decided
 read-held k s slots h f w =
-    let e : stateOf (slotAt k slots) ≡ s = ap stateOf (h .record-held) ∙ read-back s f in
-    rw (h .there, e, w, h .record-held, rest-zero s (f .x-length))
+    rw (h .there, h .record-held, record-sound s f w, read-back s f)
 
 pub write-passes : (k : ℕ) (s : State) (slots : List ℕ) → slotThere k slots ≡ true → wellFormed s ≡ true → writeEntry k s slots ≡ outcome Passed (slotSet k (recordOf s) slots)
 unfolding decided
-write-passes k s slots t h = rw (t, h)
+write-passes k s slots t h = rw (t, form-passes true s refl h)
 
 -- ---- what reading slot k answered
 

@@ -13,7 +13,7 @@ use Rattle.answers.specs.declared.Check.the-variants.{Passed, Refused}
 use Rattle.answers.specs.declared.Refusal.the-variants as R
 use Rattle.state.specs.declared.State.{State}
 use Rattle.state.specs.States.{noState, stateChecked}
-use Rattle.records.specs.Records.{recordOf, stateOf, recordSound}
+use Rattle.records.specs.Records.{recordOf, stateOf, recordChecked}
 use Rattle.slots.specs.declared.ReadBack.{ReadBack}
 
 -- a buffer of whole slots, and k one of them
@@ -28,7 +28,7 @@ slotAt k slots = take 144 (drop (144 * k) slots)
 abbrev pub slotSet : ℕ → List ℕ → List ℕ → List ℕ
 slotSet k bytes slots = take (144 * k) slots ++ bytes ++ drop (144 * k + 144) slots
 
--- ---- writing a state to slot k: refusals 4 and 5
+-- ---- writing a state to slot k: refusals 4, 5, 14 and 15
 
 abbrev pub writeChecked : ℕ → State → List ℕ → Check
 writeChecked k s slots = unless (slotThere k slots) R.Slot (stateChecked s)
@@ -40,10 +40,10 @@ writeEntry k s slots = decided (writeChecked k s slots) (outcome Passed (slotSet
 abbrev pub ofWrite : Check → Answer (Unit {0})
 ofWrite c = ofCheck c tt
 
--- ---- reading slot k: refusals 4 and 5; nothing is lent to be changed
+-- ---- reading slot k: refusals 4, 5, 14 and 15; nothing is lent to be changed
 
 abbrev pub readChecked : ℕ → List ℕ → Check
-readChecked k slots = unless (slotThere k slots) R.Slot (unless (recordSound (slotAt k slots)) R.State Passed)
+readChecked k slots = unless (slotThere k slots) R.Slot (recordChecked (slotAt k slots))
 
 abbrev pub readTo : State → ReadBack
 readTo s = record { check = Passed; state = s }

@@ -1,7 +1,7 @@
 // Slots: states kept as records of 144 bytes, one after the other in a lent buffer.
 use answers::Check;
 use answers::Refusal;
-use records::is_sound;
+use records::check_record;
 use records::read_record;
 use records::write_record;
 use state::State;
@@ -20,7 +20,8 @@ pub struct ReadBack {
 
 const RECORD: usize = 144;
 
-fn is_slot(slots: &[u8], k: usize) -> bool
+// Whether the buffer has whole slots, and k is one of them.
+pub fn is_slot(slots: &[u8], k: usize) -> bool
     ensures { λ r. ⌜ r ≡ slotThere k (now (slots .entry)) ⌝ }
 {
     (slots.len() % RECORD == 0) & (k < slots.len() / RECORD)
@@ -35,21 +36,21 @@ pub fn put(slots: &mut [u8], k: usize, s: State)
     write_record(&mut slots[start..start + RECORD], s);
 }
 
-// A state into slot k. Refuses with 4 and 5.
+// A state into slot k. Refuses with 4, 5, 14 and 15.
 pub fn write_slot(slots: &mut [u8], k: usize, s: State) -> Check
     ensures { λ r. ⌜ outcome r (now (slots .exit)) ≡ writeEntry k s (now (slots .entry)) ⌝ }
 {
     if !is_slot(slots, k) {
         return Check::Refused(Refusal::Slot);
     }
-    if !s.is_well_formed() {
-        return Check::Refused(Refusal::State);
+    if let Check::Refused(r) = s.check(true) {
+        return Check::Refused(r);
     }
     put(slots, k, s);
     Check::Passed
 }
 
-// The state in slot k. Refuses with 4 and 5.
+// The state in slot k. Refuses with 4, 5, 14 and 15.
 pub fn read_slot(slots: &[u8], k: usize) -> ReadBack
     ensures { λ r. ⌜ outcome r tt ≡ readEntry k (now (slots .entry)) ⌝ }
 {
@@ -61,9 +62,9 @@ pub fn read_slot(slots: &[u8], k: usize) -> ReadBack
     }
     let at = RECORD * k;
     let part = &slots[at..at + RECORD];
-    if !is_sound(part) {
+    if let Check::Refused(r) = check_record(part) {
         return ReadBack {
-            check: Check::Refused(Refusal::State),
+            check: Check::Refused(r),
             state: State::none(),
         };
     }

@@ -10,14 +10,17 @@ use lib.Dec.{eqb, leb}
 use borrow.Author.Tests.{eqb-true, eqb-false, eq-eqb, ne-eqb, le-leb, leb-true, leb-false, lt-leb}
 use Rattle.answers.specs.Stops.{stopNumber, lastStop, located, HasNoAddress}
 use Rattle.answers.proofs.Numbers.{stop-numbered}
+use Rattle.answers.proofs.Checks.{both-passed}
 use Rattle.answers.specs.declared.Cause.{Cause}
+use Rattle.answers.specs.declared.Check.the-variants.{Passed}
+use Rattle.answers.specs.declared.Refusal.the-variants as R
 use Rattle.word.specs.Bounds.{AllBelow}
 use Rattle.word.proofs.Bools.{either, second, below, and-fails, or-fails}
 use Rattle.word.proofs.Bounds.{below-set, below-get}
 use Rattle.isa.specs.declared.Reg.{Reg}
 use Rattle.state.specs.declared.State.{State}
 use Rattle.state.specs.Sizes.{Fits}
-use Rattle.state.specs.States.{registerOf, registerSet, written, advanced, halted, wellFormed}
+use Rattle.state.specs.States.{registerOf, registerSet, written, advanced, halted, addressAllowed, wellFormed, formChecked}
 
 -- ---- registers
 
@@ -46,27 +49,46 @@ not-located n e l =
     (λ f. inr (inr (inr (omega (arith, leb-false n 9 f)))))
     (and-fails (leb 3 n) (leb n 9) (λ f. f, λ f. f) (λ f. f, λ f. f) .0 e)
 
--- something stands in the address of a stop that has none
-abbrev Stray : State → Type 0
-Stray s = HasNoAddress (s .stop) × (s .address ≡ 0 → ⊥)
+-- its address is not allowed
+abbrev StrayAddress : State → Type 0
+StrayAddress s = ((s .stop < 3) ⊎ (9 < s .stop)) × (s .address ≡ 0 → ⊥)
 
-stop-malformed : (s : State) → ((leb (s .stop) lastStop && (located (s .stop) || eqb (s .address) 0)) ≡ false) ↔ ((lastStop < s .stop) ⊎ Stray s)
-stop-malformed s = (go (leb (s .stop) lastStop) refl, ⊎-elim (λ l. rw (lt-leb _ _ l)) (λ h. stray h))
-  where
-    go : (t : Bool) → leb (s .stop) lastStop ≡ t → (t && (located (s .stop) || eqb (s .address) 0)) ≡ false → (lastStop < s .stop) ⊎ Stray s
-    go false l e = inl (leb-false _ _ l)
-    go true l e =
-        let f = or-fails (located (s .stop)) (eqb (s .address) 0) e in
-        inr (not-located (s .stop) (f .0) (leb-true _ _ l), eqb-false _ _ (f .1))
+pub stray-address : (s : State) → (addressAllowed s ≡ false) ↔ StrayAddress s
+stray-address s = (
+  λ e. let f = or-fails (located (s .stop)) (eqb (s .address) 0) e in (
+    and-fails (leb 3 (s .stop)) (leb (s .stop) 9) (leb-false _ _, lt-leb _ _) (leb-false _ _, lt-leb _ _) .0 (f .0),
+    eqb-false _ _ (f .1),
+  ),
+  λ h. rw (
+    and-fails (leb 3 (s .stop)) (leb (s .stop) 9) (leb-false _ _, lt-leb _ _) (leb-false _ _, lt-leb _ _) .1 (h .0),
+    ne-eqb (s .address) 0 (h .1),
+  ),
+)
 
-    stray : Stray s → (leb (s .stop) lastStop && (located (s .stop) || eqb (s .address) 0)) ≡ false
-    stray h = and-fails (leb (s .stop) lastStop) _ (λ e. e, λ e. e) (λ e. e, λ e. e) .1 (inr (rw (bare (s .stop) (h .0), ne-eqb (s .address) 0 (h .1))))
+-- which states are malformed, and by which refusal
 
-pub malformed : (s : State) → (wellFormed s ≡ false) ↔ ((s .pc % 2 ≡ 1) ⊎ (lastStop < s .stop) ⊎ Stray s)
-malformed s =
-    and-fails (eqb (s .pc % 2) 0) _
-    (λ e. omega (arith, eqb-false (s .pc % 2) 0 e), λ h. ne-eqb (s .pc % 2) 0 (λ z. omega arith))
-    (stop-malformed s)
+pub odd-pc : (s : State) → (eqb (s .pc % 2) 0 ≡ false) ↔ (s .pc % 2 ≡ 1)
+odd-pc s = (λ e. omega (arith, eqb-false (s .pc % 2) 0 e), λ h. ne-eqb (s .pc % 2) 0 (λ z. omega arith))
+
+pub no-stop : (s : State) → (leb (s .stop) lastStop ≡ false) ↔ (lastStop < s .stop)
+no-stop s = (leb-false _ _, lt-leb _ _)
+
+pub malformed : (s : State) → (wellFormed s ≡ false) ↔ ((s .pc % 2 ≡ 1) ⊎ (lastStop < s .stop) ⊎ StrayAddress s)
+malformed s = and-fails (eqb (s .pc % 2) 0) _ (odd-pc s) (and-fails (leb (s .stop) lastStop) (addressAllowed s) (no-stop s) (stray-address s))
+
+-- refusals 5, 14 and 15: the check passes exactly if the state is well-formed, and those zeros are there
+pub form-passes : (zeros : Bool) (s : State) → zeros ≡ true → wellFormed s ≡ true → formChecked zeros s ≡ Passed
+form-passes zeros s z w =
+    let p = and-eq-true-iff (eqb (s .pc % 2) 0) _ .0 w in
+    let q = and-eq-true-iff (leb (s .stop) lastStop) (addressAllowed s) .0 (p .1) in
+    rw (p .0, q .0, z, q .1)
+
+pub form-passed : (zeros : Bool) (s : State) → formChecked zeros s ≡ Passed → (zeros ≡ true) × (wellFormed s ≡ true)
+form-passed zeros s e =
+    let p = both-passed (eqb (s .pc % 2) 0) R.OddPc _ e in
+    let q = both-passed (leb (s .stop) lastStop) R.StopNumber _ (p .1) in
+    let r = and-eq-true-iff zeros (addressAllowed s) .0 (both-passed (zeros && addressAllowed s) R.RecordEnd Passed (q .1) .0) in
+    (r .0, rw (p .0, q .0) (r .1))
 
 pub formed-even : (s : State) → wellFormed s ≡ true → s .pc % 2 ≡ 0
 formed-even s h = eqb-true _ _ (and-eq-true-iff _ (leb (s .stop) lastStop && (located (s .stop) || eqb (s .address) 0)) .0 h .0)
@@ -80,6 +102,23 @@ formed-stop s h = second (eqb (s .pc % 2) 0) _ h
 
 is-formed : (s : State) → s .pc % 2 ≡ 0 → StopFormed (s .stop) (s .address) → wellFormed s ≡ true
 is-formed s e l = rw (eq-eqb (s .pc % 2) 0 e) l
+
+-- as it was said before the refusals were told apart
+pub formed-before : (s : State) → (wellFormed s ≡ true) ↔ ((s .pc % 2 ≡ 0) × (s .stop ≤ 10) × (HasNoAddress (s .stop) → s .address ≡ 0))
+formed-before s = (there, λ h. is-formed s (h .0) (back h))
+  where
+    there : wellFormed s ≡ true → (s .pc % 2 ≡ 0) × (s .stop ≤ 10) × (HasNoAddress (s .stop) → s .address ≡ 0)
+    there w =
+        let p = and-eq-true-iff (eqb (s .pc % 2) 0) _ .0 w in
+        let q = and-eq-true-iff (leb (s .stop) lastStop) (addressAllowed s) .0 (p .1) in
+        (eqb-true _ _ (p .0), leb-true _ _ (q .0), λ n. eqb-true _ _ (rw (bare (s .stop) n) at (q .1)))
+
+    back : (s .pc % 2 ≡ 0) × (s .stop ≤ 10) × (HasNoAddress (s .stop) → s .address ≡ 0) → StopFormed (s .stop) (s .address)
+    back h = rw (le-leb _ _ (h .1)) (go (located (s .stop)) refl)
+      where
+        go : (b : Bool) → located (s .stop) ≡ b → (b || eqb (s .address) 0) ≡ true
+        go true e = refl
+        go false e = eq-eqb _ _ (h .2 (not-located (s .stop) e (h .1)))
 
 -- a state at no address, as all of them were when there was none
 pub formed-nowhere : (s : State) → s .pc % 2 ≡ 0 → s .stop ≤ lastStop → s .address ≡ 0 → wellFormed s ≡ true

@@ -1,6 +1,6 @@
 -- A state: pc, x1 to x31, the retired count, a stop number and the address that belongs to the stop.
 use Prim.Native.Nat.{ℕ, _+_, _-_, _%_}
-use mathlib.Core.Bool.{Bool, cond, _&&_, _||_}
+use mathlib.Core.Bool.{Bool, true, cond, _&&_, _||_}
 use mathlib.Core.List.{List}
 use lib.ListN.{getD, set, replicate}
 use lib.Dec.{eqb, leb}
@@ -43,10 +43,18 @@ fresh = state 0 (replicate 31 0) 0 0 0
 abbrev pub noState : State
 noState = state 0 (replicate 31 0) 0 255 0
 
--- an odd pc, a stop number above 10, or something in the address where the stop has none: malformed
-abbrev pub wellFormed : State → Bool
-wellFormed s = eqb (s .pc % 2) 0 && (leb (s .stop) lastStop && (located (s .stop) || eqb (s .address) 0))
+-- its stop number allows its address: the stop has one, or there is none
+abbrev pub addressAllowed : State → Bool
+addressAllowed s = located (s .stop) || eqb (s .address) 0
 
--- refusal 5
+-- an odd pc, a stop number out of range, or an address that it does not allow: malformed
+abbrev pub wellFormed : State → Bool
+wellFormed s = eqb (s .pc % 2) 0 && (leb (s .stop) lastStop && addressAllowed s)
+
+-- refusals 5, 14 and 15; `zeros` says whether bytes 137 to 139 are zero of the record that the state is read from
+abbrev pub formChecked : Bool → State → Check
+formChecked zeros s = unless (eqb (s .pc % 2) 0) R.OddPc (unless (leb (s .stop) lastStop) R.StopNumber (unless (zeros && addressAllowed s) R.RecordEnd Passed))
+
+-- of a state that is read from none
 abbrev pub stateChecked : State → Check
-stateChecked s = unless (wellFormed s) R.State Passed
+stateChecked s = formChecked true s

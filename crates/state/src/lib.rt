@@ -1,11 +1,13 @@
 // The state of a recipe's run, by value.
 use answers::Cause;
+use answers::Check;
+use answers::Refusal;
 use isa::Reg;
 ghost use mathlib.Core.Path.{_≡_};
 ghost use mathlib.Core.Bool.{cond};
 ghost use Prim.Native.Nat.{_+_, _<_, _^_};
 ghost use lib.ListN.{getD};
-ghost use Rattle.state.specs.States.{registerOf, registerSet, written, advanced, halted, fresh, noState, wellFormed};
+ghost use Rattle.state.specs.States.{registerOf, registerSet, written, advanced, halted, fresh, noState, formChecked};
 
 pub struct State {
     pub pc: u32,
@@ -132,10 +134,21 @@ impl State {
         }
     }
 
-    pub fn is_well_formed(self) -> bool
-        ensures { λ r. ⌜ r ≡ wellFormed self ⌝ }
+    // Refusals 5, 14 and 15. Where the state is read from a record, `zeros` says whether the bytes
+    // after its stop number are zero; else it is true.
+    pub fn check(self, zeros: bool) -> Check
+        ensures { λ r. ⌜ r ≡ formChecked zeros self ⌝ }
     {
+        if self.pc % 2 != 0 {
+            return Check::Refused(Refusal::OddPc);
+        }
+        if self.stop > 10 {
+            return Check::Refused(Refusal::StopNumber);
+        }
         let located = (3 <= self.stop) & (self.stop <= 9);
-        (self.pc % 2 == 0) & ((self.stop <= 10) & (located | (self.address == 0)))
+        if !(zeros & (located | (self.address == 0))) {
+            return Check::Refused(Refusal::RecordEnd);
+        }
+        Check::Passed
     }
 }

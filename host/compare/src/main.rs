@@ -1,9 +1,10 @@
 //! Compares the proved emulator with the second one. The work is divided into rounds, each with
 //! its own seed, so that it is the same for the same seed and a difference can be replayed.
-#![forbid(unsafe_code)]
+#![deny(unsafe_code)]
 
 mod cuts;
 mod damage;
+mod direct;
 mod every_word;
 mod lent;
 mod lines;

@@ -1,11 +1,13 @@
 //! Malformed inputs: for each entry every set of faults that it can meet, so that the order of
-//! refusals is compared. The paper's answer is known beforehand: the lowest number.
+//! refusals is compared. The paper's answer is known beforehand: the lowest number, and with 3 the
+//! lowest word.
 
 use crate::scene::{self, Entry, Scene, ADDRESS, STOP, ZERO};
 use crate::tally::{Check, Difference, Tally};
-use crate::{program, texts, words};
+use crate::{direct, program, texts, words};
 use phuyurik::Argument::{self, Memory, Row, Slots, State};
 use phuyurik::{Refusal, Stop, RECORD};
+use second::Refused;
 use testing::Random;
 
 pub fn round(tally: &mut Tally, random: &mut Random) -> Check {
@@ -33,12 +35,20 @@ pub fn round(tally: &mut Tally, random: &mut Random) -> Check {
 
 fn malformed(tally: &mut Tally, random: &mut Random, entry: Entry, faults: &[Refusal]) -> Check {
     let mut scene = scene::sound(random);
-    // the row's record before its length, so that a longer row keeps the bad record
+    let bad_words = bad_words(random);
+    // the row's record before its length, so that a longer row keeps the bad record; a stop's address
+    // before the stop number, since it comes with a number of its own
     for fault in faults.iter().rev() {
-        spoil(random, &mut scene, *fault);
+        spoil(random, &mut scene, *fault, &bad_words);
     }
     let answer = scene::compare(tally, entry, &scene)?.answer;
-    if answer.err() == faults.first().map(|lowest| lowest.number()) {
+    direct::compare(tally, entry, &scene, answer)?;
+    let lowest_word = bad_words.into_iter().min();
+    let expected = faults.first().map(|lowest| Refused {
+        number: lowest.number(),
+        word: lowest_word.filter(|_| *lowest == Refusal::RowRecord),
+    });
+    if answer.err() == expected {
         return Ok(());
     }
     Err(Difference(format!(
@@ -46,29 +56,39 @@ fn malformed(tally: &mut Tally, random: &mut Random, entry: Entry, faults: &[Ref
     )))
 }
 
-/// Makes a scene such that the entries which look there refuse it so.
-fn spoil(random: &mut Random, scene: &mut Scene, refusal: Refusal) {
+/// Words of a row, in any order.
+fn bad_words(random: &mut Random) -> Vec<usize> {
+    let anywhere = |random: &mut Random| {
+        let word = random.length(0, 63);
+        random.pick(&[0, 63, word, word])
+    };
+    (0..random.length(1, 3)).map(|_| anywhere(random)).collect()
+}
+
+/// Makes a scene such that the entries which look there refuse it so; in a row it is these words.
+fn spoil(random: &mut Random, scene: &mut Scene, refusal: Refusal, bad_words: &[usize]) {
     match refusal {
         Refusal::MemoryTooLong => scene.mem.resize(random.length(65_537, 65_600), 0),
         Refusal::RowLength => scene
             .row
             .resize(random.pick(&[0, 8, 504, 511, 513, 520, 1024]), 0),
-        Refusal::RowRecord => spoil_row_record(random, &mut scene.row),
+        Refusal::RowRecord => {
+            for word in bad_words {
+                spoil_row_record(random, &mut scene.row[8 * word..][..8]);
+            }
+        }
         Refusal::Slot => spoil_slots(random, scene),
-        Refusal::State => {
-            spoil_state(random, scene);
+        Refusal::OddPc | Refusal::StopNumber | Refusal::RecordEnd => {
+            spoil_state(random, &mut scene.state, refusal);
             for record in scene.slots.chunks_exact_mut(RECORD) {
-                spoil_record(random, record);
+                spoil_record(random, record, refusal);
             }
         }
         _ => unreachable!("a scene has nothing else that can be refused"),
     }
 }
 
-fn spoil_row_record(random: &mut Random, row: &mut [u8]) {
-    let anywhere = random.length(0, 63);
-    let place = 8 * random.pick(&[0, 63, anywhere]);
-    let record = &mut row[place..place + 8];
+fn spoil_row_record(random: &mut Random, record: &mut [u8]) {
     match random.below(4) {
         0 => record[4] = random.length(2, 255) as u8,
         1 => record[random.length(5, 7)] = not_zero(random),
@@ -98,12 +118,11 @@ fn spoil_slots(random: &mut Random, scene: &mut Scene) {
     }
 }
 
-fn spoil_state(random: &mut Random, scene: &mut Scene) {
-    let state = &mut scene.state;
-    match random.below(4) {
-        0 => state.pc |= 1,
-        1 => state.stop = no_stop(random),
-        2 => state.zero[random.length(0, 2)] = not_zero(random),
+fn spoil_state(random: &mut Random, state: &mut second::State, refusal: Refusal) {
+    match refusal {
+        Refusal::OddPc => state.pc |= 1,
+        Refusal::StopNumber => state.stop = no_stop(random),
+        _ if random.once_in(2) => state.zero[random.length(0, 2)] = not_zero(random),
         _ => {
             state.stop = stop_without_address(random);
             state.address = u32::from(not_zero(random)) << (8 * random.below(4));
@@ -124,11 +143,11 @@ fn not_zero(random: &mut Random) -> u8 {
     random.length(1, 255) as u8
 }
 
-fn spoil_record(random: &mut Random, record: &mut [u8]) {
-    match random.below(4) {
-        0 => record[0] |= 1,
-        1 => record[STOP] = no_stop(random),
-        2 => record[ZERO][random.length(0, 2)] = not_zero(random),
+fn spoil_record(random: &mut Random, record: &mut [u8], refusal: Refusal) {
+    match refusal {
+        Refusal::OddPc => record[0] |= 1,
+        Refusal::StopNumber => record[STOP] = no_stop(random),
+        _ if random.once_in(2) => record[ZERO][random.length(0, 2)] = not_zero(random),
         _ => {
             record[STOP] = stop_without_address(random);
             record[ADDRESS][random.length(0, 3)] = not_zero(random);

@@ -4,8 +4,8 @@ use crate::lent::Lent;
 use crate::program::{self, Temper};
 use crate::row_store::RowStore;
 use crate::tally::{first_other, number, Difference, Tally};
-use phuyurik::{Board, Slots, Stop, RECORD, ROW};
-use second::{op, Inst, State};
+use phuyurik::{Board, Error, Slots, Stop, RECORD, ROW};
+use second::{op, Inst, Refused, State};
 use std::ops::Range;
 use testing::Random;
 
@@ -61,8 +61,20 @@ fn to_second(proved: &phuyurik::State) -> State {
     state
 }
 
-/// The number retired where the entry answers one, else 0; or the refusal's number.
-pub type Answer = Result<u64, u32>;
+/// The number retired where the entry answers one, else 0; or the refusal with what it tells.
+pub type Answer = Result<u64, Refused>;
+
+/// A refusal with its word, as the second emulator answers it.
+fn refused(error: Error) -> Refused {
+    let word = match error {
+        Error::RowRecord { word } => Some(word),
+        _ => None,
+    };
+    Refused {
+        number: number(error),
+        word,
+    }
+}
 
 /// What both emulators answered and left.
 pub struct After {
@@ -89,7 +101,7 @@ impl Entry {
         };
         scene.state = to_second(&state);
         (scene.mem, scene.row, scene.slots) = (lent.0.back()?, lent.1.back()?, lent.2.back()?);
-        Ok(answer.map_err(number))
+        Ok(answer.map_err(refused))
     }
 
     fn by_second(self, scene: &mut Scene) -> Answer {
@@ -98,11 +110,14 @@ impl Entry {
         match self {
             Entry::Step => second::step(state, mem, row).map(|()| 0),
             Entry::Run => second::run(state, mem, row, scene.budget),
-            Entry::WriteSlot => second::write_slot(slots, scene.k, state).map(|()| 0),
-            Entry::ReadSlot => second::read_slot(slots, scene.k).map(|read| {
-                *state = read;
-                0
-            }),
+            Entry::WriteSlot => {
+                second::write_slot(slots, scene.k, state)?;
+                Ok(0)
+            }
+            Entry::ReadSlot => {
+                *state = second::read_slot(slots, scene.k)?;
+                Ok(0)
+            }
             Entry::RunSlot => second::run_slot(mem, row, slots, scene.k, scene.budget),
         }
     }
@@ -129,7 +144,7 @@ pub fn compare(tally: &mut Tally, entry: Entry, before: &Scene) -> Result<After,
     if answers.1.is_err() && second != *before {
         return Err(Difference(format!("{entry:?} refused, but altered a byte")));
     }
-    tally.note_refusal(&answers.1);
+    tally.note_refused(answers.1);
     note_stop(tally, entry, before, &second);
     note_row_store(tally, entry, before, &second);
     Ok(After {
@@ -300,7 +315,7 @@ fn budget(random: &mut Random) -> u64 {
     }
 }
 
-/// A state that is not malformed, mostly paused, with pc mostly in the program. Where its stop may have
+/// A state that is not refused, mostly paused, with pc mostly in the program. Where its stop may have
 /// an address it has any, also none, as old records do.
 pub fn state(random: &mut Random, length: usize) -> State {
     let mut state = State {

@@ -2,6 +2,7 @@
 
 use crate::places::Place;
 use crate::row_store::RowStore;
+use crate::scene::Answer;
 use phuyurik::{Error, Refusal, Stop};
 use second::{Fault, State};
 use std::fmt::{Debug, Display};
@@ -29,6 +30,8 @@ pub struct Tally {
     pub row_stores: [u64; RowStore::ALL.len()],
     /// How often each refusal was answered; the first place stays 0.
     pub refusals: [u64; Refusal::ALL.len() + 1],
+    /// How often refusal 3 told another word than 0, which would stand there without having been told.
+    pub later_words: u64,
     /// How often a refused line had each kind of place.
     pub places: [u64; Place::ALL.len()],
 }
@@ -93,6 +96,13 @@ impl Tally {
         }
     }
 
+    /// As `note_refusal`, with the word that an entry told.
+    pub fn note_refused(&mut self, answer: Answer) {
+        self.note_refusal(&answer.map_err(|refused| refused.number));
+        let word = answer.err().and_then(|refused| refused.word);
+        self.later_words += u64::from(word.is_some_and(|word| word > 0));
+    }
+
     /// Counts the kinds of places that a text's refusal has.
     pub fn note_place(&mut self, text: &[u8], answer: Result<usize, Fault>) {
         let Err(fault) = answer else {
@@ -137,8 +147,8 @@ impl Tally {
         Place::ALL.map(Place::words).into_iter().zip(self.places)
     }
 
-    /// The stops, their addresses, the stores into the row, the refusals and their places that were
-    /// never reached; a full comparison has none.
+    /// The stops, their addresses, the stores into the row, the refusals, their words and their places
+    /// that were never reached; a full comparison has none.
     pub fn missing(&self) -> Vec<String> {
         let mut reached = Vec::new();
         let mut note = |what: String, count: u64| reached.push((what, count));
@@ -155,6 +165,10 @@ impl Tally {
         for (number, count) in self.refusals.iter().enumerate().skip(1) {
             note(format!("refusal {number}"), *count);
         }
+        note(
+            "a word above 0 told by refusal 3".to_string(),
+            self.later_words,
+        );
         for (place, count) in self.placed() {
             note(format!("a refusal's place: {place}"), count);
         }
@@ -167,7 +181,7 @@ impl Tally {
         format!(
             "compare: {comparisons} comparisons ({steps} steps), {differences} differences, \
              seed {seed}, stops 0-{} reached: {}, addresses of stop {}, 4 at pc + 2: {}, \
-             stores of {}, refusals 1-{} reached: {}, their places: {}",
+             stores of {}, refusals 1-{} reached: {}, words above 0: {}, places: {}",
             self.stops.len() - 1,
             counts(&self.stops),
             named(self.addressed()),
@@ -175,6 +189,7 @@ impl Tally {
             named(self.stored()),
             self.refusals.len() - 1,
             counts(&self.refusals[1..]),
+            grouped(self.later_words),
             named(self.placed())
         )
     }
@@ -212,6 +227,7 @@ pub fn grouped(number: u64) -> String {
 #[cfg(test)]
 mod tests {
     use super::*;
+    use second::Refused;
 
     #[test]
     fn numbers_are_grouped_by_three() {
@@ -234,6 +250,7 @@ mod tests {
             stops: [1; Stop::ALL.len()],
             row_stores: [1; RowStore::ALL.len()],
             refusals: [1; Refusal::ALL.len() + 1],
+            later_words: 1,
             places: [1; Place::ALL.len()],
             ..Tally::default()
         };
@@ -248,7 +265,9 @@ mod tests {
         tally.note_address(&stopped(4, 10));
         assert!(tally.missing().is_empty());
         (tally.stops[10], tally.refusals[9]) = (0, 0);
-        assert_eq!(tally.missing(), ["stop 10", "refusal 9"]);
+        (tally.refusals[14], tally.refusals[15]) = (0, 0);
+        let numbers = ["stop 10", "refusal 9", "refusal 14", "refusal 15"];
+        assert_eq!(tally.missing(), numbers);
         for kind in RowStore::ALL {
             let name = format!("a store of {}", kind.words());
             tally.row_stores[kind as usize] = 0;
@@ -259,6 +278,24 @@ mod tests {
             let name = format!("a refusal's place: {}", place.words());
             assert!(tally.missing().contains(&name));
         }
+    }
+
+    #[test]
+    fn a_word_of_0_shows_nothing() {
+        let mut tally = Tally::default();
+        let mut note = |number, word| {
+            tally.note_refused(Err(Refused { number, word }));
+            tally.later_words
+        };
+        assert_eq!(
+            [note(3, Some(0)), note(14, None), note(3, Some(63))],
+            [0, 0, 1]
+        );
+        tally.note_refused(Ok(7));
+        assert_eq!((tally.refusals[3], tally.refusals[14]), (2, 1));
+        let missing = "a word above 0 told by refusal 3".to_string();
+        assert!(!tally.missing().contains(&missing));
+        assert!(Tally::default().missing().contains(&missing));
     }
 
     /// A state at 8.

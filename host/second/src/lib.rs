@@ -2,7 +2,7 @@
 //!
 //! It is written from the paper and the RISC-V unprivileged manual 20191213, and not from the
 //! proved code, so that a slip in one of the two shows as a difference. Refusals are plain
-//! numbers, as the paper's table gives them.
+//! numbers, as the paper's table gives them, beside what some of them tell.
 #![forbid(unsafe_code)]
 
 mod assemble;
@@ -16,7 +16,7 @@ mod text;
 pub use assemble::{assemble, Fault};
 pub use decode::{chart, decode};
 pub use encode::encode;
-pub use machine::{run, step, State};
+pub use machine::{run, step, Refused, State};
 pub use short::{expand, shorten};
 pub use slots::{read_slot, run_slot, write_slot};
 pub use text::{list, listing, text_of, text_of_half, text_of_word};
@@ -39,7 +39,7 @@ pub mod refusal {
     pub const ROW_LENGTH: u32 = 2;
     pub const ROW_RECORD: u32 = 3;
     pub const SLOT: u32 = 4;
-    pub const STATE: u32 = 5;
+    pub const ODD_PC: u32 = 5;
     pub const ROOM: u32 = 6;
     pub const NO_INSTRUCTION: u32 = 7;
     pub const FIELD: u32 = 8;
@@ -48,6 +48,8 @@ pub mod refusal {
     pub const NUMBER: u32 = 11;
     pub const NO_SHORT_LINE: u32 = 12;
     pub const OUTPUT_ROOM: u32 = 13;
+    pub const STOP_NUMBER: u32 = 14;
+    pub const RECORD_END: u32 = 15;
 }
 
 /// The stops' numbers.

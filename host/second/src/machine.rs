@@ -25,28 +25,47 @@ impl State {
     }
 }
 
-/// One step; refusals 1, 2, 3 and 5.
-pub fn step(s: &mut State, mem: &mut [u8], row: &mut [u8]) -> Result<(), u32> {
+/// A refusal's number, and with 3 the lowest word of the row whose record breaks the rules.
+#[derive(Clone, Copy, Debug, PartialEq, Eq)]
+pub struct Refused {
+    pub number: u32,
+    pub word: Option<usize>,
+}
+
+/// A refusal that tells nothing but its number.
+impl From<u32> for Refused {
+    fn from(number: u32) -> Refused {
+        Refused { number, word: None }
+    }
+}
+
+/// One step; refusals 1, 2, 3, 5, 14 and 15.
+pub fn step(s: &mut State, mem: &mut [u8], row: &mut [u8]) -> Result<(), Refused> {
     run(s, mem, row, 1).map(|_| ())
 }
 
 /// Steps while the state is paused and fewer than `budget` have retired; answers how many did.
-/// Refusals 1, 2, 3 and 5.
-pub fn run(s: &mut State, mem: &mut [u8], row: &mut [u8], budget: u64) -> Result<u64, u32> {
+/// Refusals 1, 2, 3, 5, 14 and 15.
+pub fn run(s: &mut State, mem: &mut [u8], row: &mut [u8], budget: u64) -> Result<u64, Refused> {
     check_memory_and_row(mem, row)?;
     check_state(s)?;
     Ok(run_checked(s, mem, row, budget))
 }
 
-pub(crate) fn check_memory_and_row(mem: &[u8], row: &[u8]) -> Result<(), u32> {
+pub(crate) fn check_memory_and_row(mem: &[u8], row: &[u8]) -> Result<(), Refused> {
     if mem.len() > LONGEST_MEMORY {
-        return Err(refusal::MEMORY_TOO_LONG);
+        return Err(refusal::MEMORY_TOO_LONG.into());
     }
     if row.len() != ROW {
-        return Err(refusal::ROW_LENGTH);
+        return Err(refusal::ROW_LENGTH.into());
     }
-    if !row.chunks_exact(8).all(record_is_sound) {
-        return Err(refusal::ROW_RECORD);
+    for (k, record) in row.chunks_exact(8).enumerate() {
+        if !record_is_sound(record) {
+            return Err(Refused {
+                number: refusal::ROW_RECORD,
+                word: Some(k),
+            });
+        }
     }
     Ok(())
 }
@@ -57,17 +76,22 @@ fn record_is_sound(record: &[u8]) -> bool {
     record[4..] == [mark, 0, 0, 0]
 }
 
+/// A state's pc, then its stop number, then what stands after that in its record.
 pub(crate) fn check_state(s: &State) -> Result<(), u32> {
     let may_have_address = !matches!(
         s.stop,
         stop::PAUSED | stop::ECALL | stop::EBREAK | stop::COUNT_FULL
     );
     let is_address_sound = may_have_address || s.address == 0;
-    let is_stop_sound = s.stop <= stop::COUNT_FULL && s.zero == [0; 3] && is_address_sound;
-    if !s.pc.is_multiple_of(2) || !is_stop_sound {
-        return Err(refusal::STATE);
+    if !s.pc.is_multiple_of(2) {
+        Err(refusal::ODD_PC)
+    } else if s.stop > stop::COUNT_FULL {
+        Err(refusal::STOP_NUMBER)
+    } else if s.zero != [0; 3] || !is_address_sound {
+        Err(refusal::RECORD_END)
+    } else {
+        Ok(())
     }
-    Ok(())
 }
 
 /// As `run`, on arguments that have been checked.

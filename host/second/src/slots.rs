@@ -1,7 +1,7 @@
 //! States in slots: records of 144 bytes, one after the other.
 
 use crate::machine::{check_memory_and_row, check_state, run_checked};
-use crate::{refusal, State};
+use crate::{refusal, Refused, State};
 use std::ops::Range;
 
 const RECORD: usize = 144;
@@ -10,7 +10,7 @@ const STOP: usize = 136;
 const ZERO: Range<usize> = 137..140;
 const ADDRESS: Range<usize> = 140..144;
 
-/// Writes a state to slot `k`; refusals 4 and 5.
+/// Writes a state to slot `k`; refusals 4, 5, 14 and 15.
 pub fn write_slot(slots: &mut [u8], k: usize, s: &State) -> Result<(), u32> {
     let place = place(slots.len(), k)?;
     check_state(s)?;
@@ -18,19 +18,19 @@ pub fn write_slot(slots: &mut [u8], k: usize, s: &State) -> Result<(), u32> {
     Ok(())
 }
 
-/// The state in slot `k`; refusals 4 and 5.
+/// The state in slot `k`; refusals 4, 5, 14 and 15.
 pub fn read_slot(slots: &[u8], k: usize) -> Result<State, u32> {
     state(&slots[place(slots.len(), k)?])
 }
 
-/// Runs the state in slot `k`, as `run` does, and writes it back; refusals 1 to 5.
+/// Runs the state in slot `k`, as `run` does, and writes it back; refusals 1 to 5, 14 and 15.
 pub fn run_slot(
     mem: &mut [u8],
     row: &mut [u8],
     slots: &mut [u8],
     k: usize,
     budget: u64,
-) -> Result<u64, u32> {
+) -> Result<u64, Refused> {
     check_memory_and_row(mem, row)?;
     let mut s = read_slot(slots, k)?;
     let retired = run_checked(&mut s, mem, row, budget);

@@ -1,5 +1,5 @@
 //! Where a step stopped: cards from the words of the first change request, and which addresses are
-//! malformed.
+//! refused.
 
 use second::*;
 
@@ -117,7 +117,7 @@ fn the_other_stops_have_none() {
 }
 
 /// What a load accessed before is no address of the ecall after it. A state is let go on without its
-/// address: with it, it would be malformed.
+/// address: with it, it would be refused.
 #[test]
 fn no_address_comes_from_before() {
     let mut mem = [LB, ECALL].map(u32::to_le_bytes).concat();
@@ -134,17 +134,22 @@ fn no_address_comes_from_before() {
 fn answers(s: &State, record: &[u8; 144]) -> [Result<(), u32>; 5] {
     let (mut mem, mut row) = ([0x01; 16], [0; 512]);
     let mut record = *record;
+    let number = |refused: Refused| refused.number;
     [
-        step(&mut s.clone(), &mut mem, &mut row),
-        run(&mut s.clone(), &mut mem, &mut row, 0).map(|_| ()),
+        step(&mut s.clone(), &mut mem, &mut row).map_err(number),
+        run(&mut s.clone(), &mut mem, &mut row, 0)
+            .map(|_| ())
+            .map_err(number),
         write_slot(&mut [0; 144], 0, s),
         read_slot(&record, 0).map(|read| assert_eq!(read, *s)),
-        run_slot(&mut mem, &mut row, &mut record, 0, 0).map(|_| ()),
+        run_slot(&mut mem, &mut row, &mut record, 0, 0)
+            .map(|_| ())
+            .map_err(number),
     ]
 }
 
 #[test]
-fn an_address_is_malformed_with_a_stop_that_has_none() {
+fn an_address_is_refused_with_a_stop_that_has_none() {
     for (stop, address) in (0..=255).flat_map(|stop| [0, 1, 1 << 31, u32::MAX].map(|a| (stop, a))) {
         let s = State {
             stop,
@@ -157,7 +162,8 @@ fn an_address_is_malformed_with_a_stop_that_has_none() {
         let answer = match stop {
             3..=9 => Ok(()),
             0 | 1 | 2 | 10 if address == 0 => Ok(()),
-            _ => Err(5),
+            0 | 1 | 2 | 10 => Err(15),
+            _ => Err(14),
         };
         assert_eq!(answers(&s, &record), [answer; 5], "{s:?}");
     }
@@ -170,7 +176,7 @@ fn bytes_137_to_139_are_zero_with_every_stop() {
         s.zero[place] = 128;
         let mut record = [0; 144];
         (record[0], record[136], record[137 + place]) = (2, stop, 128);
-        assert_eq!(answers(&s, &record), [Err(5); 5]);
+        assert_eq!(answers(&s, &record), [Err(15); 5]);
     }
 }
 

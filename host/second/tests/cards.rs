@@ -16,7 +16,7 @@ fn half_text(bits: u16) -> Result<String, u32> {
 }
 
 /// One step of a word on a state, in a memory with that word at its pc and 0x8B at 128.
-fn after(word: u32, s: &mut State) -> Result<(), u32> {
+fn after(word: u32, s: &mut State) -> Result<(), Refused> {
     let mut mem = vec![0; 256];
     mem[0x80] = 0x8b;
     mem[s.pc as usize..][..4].copy_from_slice(&word.to_le_bytes());

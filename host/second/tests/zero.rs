@@ -167,7 +167,7 @@ fn newly_burnt_are_as_many_as_completed_stores_of_other_values() {
 }
 
 /// All that takes a row: what each answers, one after the other; nothing may change by it.
-fn answers(row: &[u8; 512]) -> [Result<(), u32>; 3] {
+fn answers(row: &[u8; 512]) -> [Result<(), Refused>; 3] {
     let (mut s, mut mem, mut after, mut slots) = (State::fresh(), [0; 4], *row, [0; 144]);
     let all = [
         step(&mut s.clone(), &mut mem, &mut after),
@@ -179,10 +179,18 @@ fn answers(row: &[u8; 512]) -> [Result<(), u32>; 3] {
     all
 }
 
+/// Refusal 3, which tells this word.
+fn refused(word: usize) -> Result<(), Refused> {
+    Err(Refused {
+        number: 3,
+        word: Some(word),
+    })
+}
+
 #[test]
 fn a_mark_of_1_with_value_0_is_refused_with_3() {
     for word in 0..64 {
-        assert_eq!(answers(&row(&[(word, 0)])), [Err(3); 3]);
+        assert_eq!(answers(&row(&[(word, 0)])), [refused(word); 3]);
         for value in OTHERS {
             assert_eq!(answers(&row(&[(word, value)])), [Ok(()); 3]);
         }
@@ -198,7 +206,7 @@ fn records_are_blank_or_burnt() {
                 let mut row = [0; 512];
                 (row[16 + place], row[20], row[16 + last]) = (value, mark, zero);
                 let is_sound = zero == 0 && matches!((value, mark), (0, 0) | (1.., 1));
-                let answer = if is_sound { Ok(()) } else { Err(3) };
+                let answer = if is_sound { Ok(()) } else { refused(2) };
                 assert_eq!(answers(&row), [answer; 3], "{:?}", &row[16..24]);
             }
         }

@@ -55,6 +55,8 @@ pub enum Error {
     Refused(PathBuf, Refusal),
     /// It refused something in particular of what a file holds: which, and why.
     RefusedFor(PathBuf, Refusal, String),
+    /// It refused a record that a file holds: which, and what stands there.
+    Record(PathBuf, Refusal, String),
     /// It refused a line of a text, which is told with the line itself.
     Line(Refusal, String),
     /// The demo saw something else than it promises.
@@ -109,6 +111,7 @@ impl Error {
             Error::Of(kind, ..) => kind.code(),
             Error::Refused(_, refusal)
             | Error::RefusedFor(_, refusal, _)
+            | Error::Record(_, refusal, _)
             | Error::Line(refusal, _) => refusal_code(*refusal),
         }
     }
@@ -126,6 +129,10 @@ impl fmt::Display for Error {
             Error::Refused(path, refusal) => write!(f, "{}: {refusal}", path.display()),
             Error::RefusedFor(path, refusal, why) => {
                 write!(f, "{}: {refusal} ({why})", path.display())
+            }
+            Error::Record(path, refusal, told) => {
+                let (path, number) = (path.display(), refusal.number());
+                write!(f, "{path}: refusal {number}: {told}")
             }
             Error::Line(_, told) => f.write_str(told),
             Error::Fact(what) => write!(f, "demo: {what}"),

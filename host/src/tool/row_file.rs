@@ -23,26 +23,24 @@ pub fn row_in(path: &Path, bytes: &[u8]) -> Result<Row, Error> {
 /// Why the library refused these bytes of a row's file; of a record that breaks its rules also which
 /// it is, and which rule.
 pub fn refused(path: &Path, bytes: &[u8], error: phuyurik::Error) -> Error {
-    let broken = |(k, record)| Some(format!("word {k}: {}", broken_rule(record)?));
-    match bytes.chunks_exact(8).enumerate().find_map(broken) {
-        Some(rule) if error.refusal() == Some(Refusal::RowRecord) => {
-            Error::RefusedFor(path.to_path_buf(), Refusal::RowRecord, rule)
+    match error {
+        phuyurik::Error::RowRecord { word } => {
+            let rule = broken_rule(&bytes[8 * word..][..8]);
+            let told = format!("record of word {word} breaks its rules: {rule}");
+            Error::Record(path.to_path_buf(), Refusal::RowRecord, told)
         }
-        _ => Error::of_library(path, error),
+        other => Error::of_library(path, other),
     }
 }
 
-fn broken_rule(record: &[u8]) -> Option<String> {
+/// The rule that a refused record breaks.
+fn broken_rule(record: &[u8]) -> String {
     let value = u32::from_le_bytes([record[0], record[1], record[2], record[3]]);
-    if record[5..] != [0; 3] {
-        return Some("bytes 5 to 7 are not zero".to_string());
-    }
-    match (record[4], value) {
-        (0, 0) => None,
-        (0, value) => Some(format!("mark 0 with value {value}, and a blank word has 0")),
-        (1, 0) => Some("mark 1 with value 0, and a burnt word has another".to_string()),
-        (1, _) => None,
-        (mark, _) => Some(format!("mark {mark}, and a mark is 0 or 1")),
+    match record[4] {
+        _ if record[5..] != [0; 3] => "bytes 5 to 7 are not zero".to_string(),
+        0 => format!("mark 0 with value {value}, and a blank word has 0"),
+        1 => "mark 1 with value 0, and a burnt word has another".to_string(),
+        mark => format!("mark {mark}, and a mark is 0 or 1"),
     }
 }
 

@@ -181,12 +181,13 @@ impl Job<'_> {
     /// The library's own answer on everything that it would be lent: a run of budget 0.
     fn checked(&self, row: &[u8], slots: &[u8]) -> Result<State, Error> {
         let (mut memory, mut copy) = (self.image.memory.clone(), row.to_vec());
-        let mut slots = Slots::new(slots.to_vec());
+        let mut lent = Slots::new(slots.to_vec());
         Board::new(&mut memory, &mut copy)
-            .run_slot(&mut slots, self.order.slot, 0)
-            .and_then(|_| slots.read(self.order.slot))
+            .run_slot(&mut lent, self.order.slot, 0)
+            .and_then(|_| lent.read(self.order.slot))
             .map_err(|error| match error.refusal().map(Refusal::argument) {
                 Some(Argument::Row) => row_file::refused(&self.row_path, row, error),
+                Some(Argument::State) => self.slot().refused(slots, error),
                 _ => self.failed(error),
             })
     }

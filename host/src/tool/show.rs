@@ -7,6 +7,7 @@ use super::known::burnt_words;
 use super::row_file;
 use super::run::Outcome;
 use super::settling;
+use super::slot::Slot;
 use super::view::View;
 use super::watch;
 use phuyurik::{Row, Slots, State, Stop};
@@ -78,9 +79,10 @@ pub fn slot(path: &Path, k: usize) -> Result<String, Error> {
     let Some(bytes) = view.slots(&path)? else {
         return Err(Error::missing(&path, "missing"));
     };
-    let state = Slots::new(bytes)
+    let slots_path = &path;
+    let state = Slots::new(&bytes)
         .read(k)
-        .map_err(|error| Error::of_library(&path, error))?;
+        .map_err(|error| Slot { slots_path, k }.refused(&bytes, error))?;
     Ok(slot_text(&state))
 }
 

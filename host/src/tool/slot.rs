@@ -4,7 +4,8 @@ use super::error::Error;
 use super::journal::{self, ImageMark, Memory};
 use super::known::Known;
 use super::view::View;
-use phuyurik::{Row, State, Stop, RECORD};
+use super::ways::record;
+use phuyurik::{Argument, Refusal, Row, State, Stop, RECORD};
 use std::path::{Path, PathBuf};
 
 /// What a slot holds.
@@ -44,6 +45,19 @@ impl Slot<'_> {
             self.slots_path,
             format!("slot {} {}", self.k, why.to_string()),
         )
+    }
+
+    /// Why the library refused this slot of these bytes; of a record also what stands there.
+    pub fn refused(&self, slots: &[u8], error: phuyurik::Error) -> Error {
+        let of_record = |refusal: &Refusal| refusal.argument() == Argument::State;
+        let refusal = error.refusal().filter(of_record);
+        match refusal.zip(record::in_bytes(slots, self.k)) {
+            Some((refusal, record)) => {
+                let told = format!("slot {}: {}", self.k, record::fault(&record, refusal));
+                Error::Record(self.slots_path.to_path_buf(), refusal, told)
+            }
+            None => Error::of_library(self.slots_path, error),
+        }
     }
 
     pub fn memory_path(&self) -> PathBuf {

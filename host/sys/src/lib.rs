@@ -5,10 +5,12 @@
 //! ```
 //! use phuyurik_sys::{phuyurik_step, phuyurik_version, State, VERSION};
 //! let (mut state, mut memory, mut row) = (State::default(), [0x93, 0x00, 0x70, 0x00], [0; 512]);
+//! let mut word = 0;
 //! // SAFETY: each buffer has as many bytes as is said, and they do not overlap.
 //! unsafe {
 //!     assert_eq!(phuyurik_version(), VERSION);
-//!     assert_eq!(phuyurik_step(&mut state, memory.as_mut_ptr(), 4, row.as_mut_ptr(), 512), 0);
+//!     let (memory, row) = (memory.as_mut_ptr(), row.as_mut_ptr());
+//!     assert_eq!(phuyurik_step(&mut state, memory, 4, row, 512, &mut word), 0);
 //! }
 //! assert_eq!((state.pc, state.x[0], state.count), (4, 7, 1));
 //! ```
@@ -244,14 +246,17 @@ extern "C" {
     /// One step.
     ///
     /// ```
-    /// let (mut state, mut row) = (phuyurik_sys::State::default(), [0; 512]);
+    /// let (mut state, mut row, mut word) = (phuyurik_sys::State::default(), [0; 512], 99);
     /// let mut memory = [0x93, 0x00, 0x70, 0x00]; // addi x1,x0,7
     /// // SAFETY: what is lent has the sizes that are said, and nothing overlaps.
-    /// unsafe {
+    /// let mut step = |row: &mut [u8; 512]| unsafe {
     ///     let (memory, row) = (memory.as_mut_ptr(), row.as_mut_ptr());
-    ///     assert_eq!(phuyurik_sys::phuyurik_step(&mut state, memory, 4, row, 512), 0);
-    /// }
-    /// assert_eq!((state.pc, state.x[0]), (4, 7));
+    ///     phuyurik_sys::phuyurik_step(&mut state, memory, 4, row, 512, &mut word)
+    /// };
+    /// assert_eq!(step(&mut row), 0);
+    /// row[8 * 17 + 4] = 1; // a mark with value 0
+    /// assert_eq!(step(&mut row), 3);
+    /// assert_eq!((state.pc, state.x[0], word), (4, 7, 17));
     /// ```
     pub fn phuyurik_step(
         state: *mut State,
@@ -259,19 +264,20 @@ extern "C" {
         mem_size: usize,
         row: *mut u8,
         row_size: usize,
+        word: *mut usize,
     ) -> u32;
     /// A run of at most `budget` steps.
     ///
     /// ```
     /// let (mut state, mut row) = (phuyurik_sys::State::default(), [0; 512]);
     /// let mut memory = [0x93, 0x00, 0x70, 0x00]; // addi x1,x0,7
-    /// let mut retired = 0;
+    /// let (mut retired, mut word) = (0, 99);
     /// // SAFETY: what is lent has the sizes that are said, and nothing overlaps.
     /// unsafe {
     ///     let (memory, row) = (memory.as_mut_ptr(), row.as_mut_ptr());
-    ///     phuyurik_sys::phuyurik_run(&mut state, memory, 4, row, 512, 9, &mut retired);
+    ///     phuyurik_sys::phuyurik_run(&mut state, memory, 4, row, 512, 9, &mut retired, &mut word);
     /// }
-    /// assert_eq!((state.stop, state.address, retired), (4, 4, 1));
+    /// assert_eq!((state.stop, state.address, retired, word), (4, 4, 1, 99));
     /// ```
     pub fn phuyurik_run(
         state: *mut State,
@@ -281,6 +287,7 @@ extern "C" {
         row_size: usize,
         budget: u64,
         retired: *mut u64,
+        word: *mut usize,
     ) -> u32;
     /// A state into a slot.
     ///
@@ -314,15 +321,15 @@ extern "C" {
     /// A run of the state in a slot.
     ///
     /// ```
-    /// let (mut row, mut slots, mut retired) = ([0; 512], [0; 144], 0);
+    /// let (mut row, mut slots, mut retired, mut word) = ([0; 512], [0; 144], 0, 99);
     /// let mut memory = [0x93, 0x00, 0x70, 0x00]; // addi x1,x0,7
     /// // SAFETY: what is lent has the sizes that are said, and nothing overlaps.
     /// unsafe {
-    ///     let (memory, row) = (memory.as_mut_ptr(), row.as_mut_ptr());
-    ///     let slots = slots.as_mut_ptr();
-    ///     phuyurik_sys::phuyurik_run_slot(memory, 4, row, 512, slots, 144, 0, 9, &mut retired);
+    ///     let (memory, row, slots) = (memory.as_mut_ptr(), row.as_mut_ptr(), slots.as_mut_ptr());
+    ///     let places = (&mut retired, &mut word);
+    ///     phuyurik_sys::phuyurik_run_slot(memory, 4, row, 512, slots, 144, 0, 9, places.0, places.1);
     /// }
-    /// assert_eq!((slots[136], slots[140], retired), (4, 4, 1));
+    /// assert_eq!((slots[136], slots[140], retired, word), (4, 4, 1, 99));
     /// ```
     pub fn phuyurik_run_slot(
         mem: *mut u8,
@@ -334,5 +341,6 @@ extern "C" {
         k: usize,
         budget: u64,
         retired: *mut u64,
+        word: *mut usize,
     ) -> u32;
 }

@@ -1,21 +1,16 @@
--- `phuyurik_run` meets its contract: what was read of the record is run, and the check that the run answers decides. Assumes nothing.
-use mathlib.Core.Path.{refl}
+-- `phuyurik_run` meets its contract: what the run of the one slot answers decides. Assumes nothing.
 use borrow.Author.Needs.{needs}
+use Rattle.boards.specs.Boards.{board}
+use Rattle.resume.specs.Resuming.{bench}
+use Rattle.c_runs.proofs.Calls.{resume-called}
 use Rattle.c_runs.proofs.phuyurik_run.Statement.{statement}
 use Rattle.c_runs.proofs.phuyurik_run.Tie as tie
 
 returns : tie.Need-returns
 returns c =
-    let run = c .before .before .before .before .before .before .before .before in
-    let read = run .before .before .before .before in
-    rw (← read .read-slot .ensures, ← run .run .ensures, c .before .before .check .given .1, c .number .ensures) refl
-
-returns-2 : tie.Need-returns-2
-returns-2 c =
-    let found = c .before .before .before in
-    let run = found .before .before .before .before .before .before in
-    let read = run .before .before .before .before in
-    rw (← read .read-slot .ensures, ← run .run .ensures, found .enum-told .given .1, c .write-record .ensures) refl
+    let run = c .before .before .before .before .before .before .before in
+    let at = run .before .before .before .before .before .before .args in
+    resume-called (at .budget) 0 (bench (board (at .mem .now) (at .row .now)) (at .state .now)) (at .retired .now) (at .word .now) (c .answer .ensures) (run .run-slot .ensures)
 
 pub phuyurik-run-spec : {M : Type 1} → statement M
-phuyurik-run-spec = tie.close (tie.spec _ _ (λ c. search needs) _ (λ c. search needs) (λ c. search needs) (λ c. search needs) returns (λ c. search needs) (λ c κs. search needs) (λ c. search needs) (λ c. search needs) returns-2)
+phuyurik-run-spec = tie.close (tie.spec _ _ (λ c. search needs) (λ c. search needs) returns)

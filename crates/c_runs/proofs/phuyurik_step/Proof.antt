@@ -1,21 +1,20 @@
--- `phuyurik_step` meets its contract: what was read of the record makes a step, and the check that the step answers decides. Assumes nothing.
-use mathlib.Core.Path.{refl}
+-- `phuyurik_step` meets its contract: a run of budget 1 of the one slot decides. Assumes nothing.
 use borrow.Author.Needs.{needs}
+use Rattle.boards.specs.Boards.{board}
+use Rattle.resume.specs.Resuming.{Bench, bench}
+use Rattle.answers.specs.Outcomes.{Outcome, outcome}
+use Prim.Native.Nat.{ℕ}
+use mathlib.Core.Path.{ap}
+use Rattle.c_runs.proofs.Calls.{resume-called}
 use Rattle.c_runs.proofs.phuyurik_step.Statement.{statement}
 use Rattle.c_runs.proofs.phuyurik_step.Tie as tie
 
 returns : tie.Need-returns
 returns c =
-    let run = c .before .before .before .before .before .before .before .before in
-    let read = run .before .before .before .before in
-    rw (← read .read-slot .ensures, ← run .step .ensures, c .before .before .check .given .1, c .number .ensures) refl
-
-returns-2 : tie.Need-returns-2
-returns-2 c =
-    let found = c .before .before .before in
-    let run = found .before .before .before .before .before .before in
-    let read = run .before .before .before .before in
-    rw (← read .read-slot .ensures, ← run .step .ensures, found .enum-told .given .1, c .write-record .ensures) refl
+    let run = c .before .before .before .before .before .before .before in
+    let at = run .before .before .before .before .before .before .args in
+    ap (λ (o : Outcome ℕ ((ℕ × ℕ) × Bench)). outcome (o .answer) (o .lent .0 .1, o .lent .1))
+    (resume-called 1 0 (bench (board (at .mem .now) (at .row .now)) (at .state .now)) 0 (at .word .now) (c .answer .ensures) (run .run-slot .ensures))
 
 pub phuyurik-step-spec : {M : Type 1} → statement M
-phuyurik-step-spec = tie.close (tie.spec _ _ (λ c. search needs) _ (λ c. search needs) (λ c. search needs) (λ c. search needs) returns (λ c. search needs) (λ c κs. search needs) (λ c. search needs) (λ c. search needs) returns-2)
+phuyurik-step-spec = tie.close (tie.spec _ _ (λ c. search needs) (λ c. search needs) returns)

@@ -1,7 +1,6 @@
 -- What the board is refused with decides; where it passes, the state does. Assumes nothing.
 use mathlib.Core.Path.{sym, _∙_}
 use borrow.Author.Needs.{needs}
-use borrow.Author.Tests.{not-true, not-false}
 use Rattle.state.specs.States.{stateChecked}
 use Rattle.boards.specs.Boards.{board}
 use Rattle.boards.proofs.Boards.{board-refused, board-passed}
@@ -15,13 +14,9 @@ returns c =
 
 returns-2 : tie.Need-returns-2
 returns-2 c =
-    let at = c .before .before .before .before .before .before .before .args in
-    rw (board-passed (board (at .mem .now) (at .row .now)) (stateChecked (at .s)) (sym (c .before .before .before .before .check-board .ensures) ∙ c .before .before .enum-told .given .1), ← c .before .is-well-formed .ensures, not-true (c .before .is-well-formed .result) (c .if1 .taken))
-
-returns-3 : tie.Need-returns-3
-returns-3 c =
-    let at = c .before .before .before .before .before .before .before .args in
-    rw (board-passed (board (at .mem .now) (at .row .now)) (stateChecked (at .s)) (sym (c .before .before .before .before .check-board .ensures) ∙ c .before .before .enum-told .given .1), ← c .before .is-well-formed .ensures, not-false (c .before .is-well-formed .result) (c .if1 .left))
+    let lent = c .before .before .before in
+    let at = lent .before .before .before .args in
+    rw (board-passed (board (at .mem .now) (at .row .now)) (stateChecked (at .s)) (sym (lent .check-board .ensures) ∙ c .before .enum-told .given .1)) (c .check .ensures)
 
 pub check-spec : {M : Type 1} → statement M
 check-spec =
@@ -32,5 +27,4 @@ check-spec =
     returns
     (λ c. search needs)
     _
-    returns-2
-    returns-3)
+    returns-2)

@@ -31,18 +31,18 @@ part-part-end c =
 
 returns-2 : tie.Need-returns-2
 returns-2 c =
-    let sound = c .before .before in
-    let slot = sound .before .before .before in
+    let checked = c .before .before .before .before in
+    let slot = checked .before .before .before .is-slot in
     rw (c .none2 .ensures)
     (is-refused _ noRead tt refl
-    (rw (← slot .is-slot .ensures, not-false (slot .is-slot .result) (sound .before .before .if1 .left), ← (rw one-record at (sound .is-sound .ensures)), not-true (sound .is-sound .result) (c .before .if2 .taken))))
+    (rw (← slot .ensures, not-false (slot .result) (checked .before .before .if1 .left), ← (rw one-record at (checked .check-record .ensures))) (c .before .before .r .given .1)))
 
 returns-3 : tie.Need-returns-3
 returns-3 c =
-    let sound = c .before .before in
-    let slot = sound .before .before .before in
+    let checked = c .before .before .before in
+    let slot = checked .before .before .before .is-slot in
     is-given noRead tt refl
-    (rw (← slot .is-slot .ensures, not-false (slot .is-slot .result) (sound .before .before .if1 .left), ← (rw one-record at (sound .is-sound .ensures)), not-false (sound .is-sound .result) (c .before .if2 .left)))
+    (rw (← slot .ensures, not-false (slot .result) (checked .before .before .if1 .left), ← (rw one-record at (checked .check-record .ensures))) (c .before .enum-told .given .1))
     (rw (c .read-record .ensures, one-record))
 
 pub read-slot-spec : {M : Type 1} → statement M
@@ -58,7 +58,9 @@ read-slot-spec =
     (λ c. search needs)
     part-part-end
     (λ c κs. search needs)
+    (λ c. search needs)
     _
     returns-2
+    (λ c. search needs)
     (λ c κs. search needs)
     returns-3)

@@ -15,23 +15,24 @@ returns c = is-refused _ Refused _ refl (rw (← c .before .is-slot .ensures, no
 
 returns-2 : tie.Need-returns-2
 returns-2 c =
-    let slot = c .before .before .before .is-slot in
-    let formed = c .before .is-well-formed in
+    let checked = c .before .before .before in
+    let slot = checked .before .before .is-slot in
     is-refused _ Refused _ refl
-    (rw (← slot .ensures, not-false (slot .result) (c .before .before .if1 .left), ← formed .ensures, not-true (formed .result) (c .if2 .taken)))
+    (rw (← slot .ensures, not-false (slot .result) (checked .before .if1 .left), ← checked .check .ensures) (c .before .r .given .1))
 
 put-requires : tie.Need-put-requires
 put-requires c κs =
-    let at = c .before .before .before .before .before .before .before .args in
-    omega (arith, slot-fits (at .k) (at .slots .now) (c .before .before .before .before .is-slot .ensures) (c .before .before .before .if1 .left))
+    let slot = c .before .before .before .before .before in
+    let at = slot .before .before .before .args in
+    omega (arith, slot-fits (at .k) (at .slots .now) (slot .is-slot .ensures) (c .before .before .before .before .if1 .left))
 
 returns-3 : tie.Need-returns-3
 returns-3 c =
     let put = c .before .before in
-    let formed = put .before .before .before in
-    let slot = formed .before .before in
+    let checked = put .before .before .before .before in
+    let slot = checked .before .before .is-slot in
     is-given Refused _ refl
-    (rw (← slot .is-slot .ensures, not-false (slot .is-slot .result) (formed .before .if1 .left), ← formed .is-well-formed .ensures, not-false (formed .is-well-formed .result) (put .before .before .if2 .left)))
+    (rw (← slot .ensures, not-false (slot .result) (checked .before .if1 .left), ← checked .check .ensures) (put .before .before .enum-told .given .1))
     (ap (outcome Passed) (put .put .ensures))
 
 pub write-slot-spec : {M : Type 1} → statement M
@@ -43,7 +44,9 @@ write-slot-spec =
     returns
     _
     (λ c. search needs)
+    (λ c. search needs)
     returns-2
+    (λ c. search needs)
     put-requires
     (λ c. search needs)
     returns-3)

@@ -2,7 +2,7 @@
 use super::super::error::Error;
 use super::super::files::{self, Action};
 use super::super::show;
-use phuyurik::{Slots, State, Stop, RECORD};
+use phuyurik::{Refusal, Slots, State, Stop, RECORD};
 use std::path::Path;
 
 /// The record of a slot, if the slots file is there and has it whole.
@@ -25,7 +25,24 @@ pub fn writing(slots_path: &Path, k: usize, record: &[u8; RECORD]) -> Action {
 pub fn text(record: &[u8; RECORD]) -> String {
     match Slots::new(record).read(0) {
         Ok(state) => state_text(&state),
-        Err(_) => "no state that a run could have".to_string(),
+        Err(error) => match error.refusal() {
+            Some(why) => format!("no state that a run could have ({})", fault(record, why)),
+            None => error.to_string(),
+        },
+    }
+}
+
+/// What stands in a record that the library refuses so.
+pub fn fault(record: &[u8; RECORD], refusal: Refusal) -> String {
+    let state = State::from_bytes(*record);
+    let (stop, address) = (state.stop_number(), state.address());
+    match refusal {
+        Refusal::StopNumber => format!("stop number {stop}"),
+        Refusal::RecordEnd if record[137..140] != [0; 3] => {
+            "bytes 137 to 139 are not zero".to_string()
+        }
+        Refusal::RecordEnd => format!("address 0x{address:08x} with stop {stop}, which has none"),
+        other => other.words().to_string(),
     }
 }
 

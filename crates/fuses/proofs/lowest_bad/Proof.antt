@@ -1,4 +1,4 @@
--- `fuses::all_keep` meets its contract. The loop's invariant: the records passed keep the rules; one that breaks them breaks them for the row. Assumes nothing.
+-- `fuses::lowest_bad` meets its contract. The loop's invariant: the records passed keep the rules; so the first that breaks them is the lowest. Assumes nothing.
 use Prim.Native.Nat.{_≤_, _-_}
 use native.Mathlib.Numerals.{add-one}
 use native.Mathlib.Omega.{arith}
@@ -7,9 +7,9 @@ use mathlib.Core.Bool.{true}
 use borrow.Author.Needs.{needs}
 use borrow.Author.Tests.{not-true, not-false}
 use Rattle.fuses.specs.Row.{allKeep}
-use Rattle.fuses.proofs.Rows.{one-breaks}
-use Rattle.fuses.proofs.all_keep.Statement.{statement}
-use Rattle.fuses.proofs.all_keep.Tie as tie
+use Rattle.fuses.proofs.Rows.{lowest-is, lowest-all}
+use Rattle.fuses.proofs.lowest_bad.Statement.{statement}
+use Rattle.fuses.proofs.lowest_bad.Tie as tie
 
 abbrev Inv-loop : tie.InvT-loop
 Inv-loop row k₀ k = (k ≤ 64) × (allKeep k row ≡ true)
@@ -22,7 +22,8 @@ unfolding allKeep
 loop-holds c = (search needs, refl)
 
 returns : tie.Need-returns Inv-loop μ-loop
-returns c = sym (one-breaks 64 _ _ (omega arith) (sym (c .before .keeps-rules .ensures) ∙ not-true _ (c .if1 .taken)))
+returns c =
+    sym (lowest-is 64 _ _ (omega arith) (c .before .before .before .loop .inv .1) (sym (c .before .keeps-rules .ensures) ∙ not-true _ (c .if1 .taken)))
 
 loop-again : tie.Need-loop-again Inv-loop μ-loop
 unfolding allKeep
@@ -33,10 +34,10 @@ returns-2 : tie.Need-returns-2 Inv-loop μ-loop
 returns-2 c =
     let l = c .before .loop in
     let e : l .k ≡ 64 = omega arith in
-    sym (rw e at (l .inv .1))
+    sym (lowest-all _ (rw e at (l .inv .1)))
 
-pub all-keep-spec : {M : Type 1} → statement M
-all-keep-spec =
+pub lowest-bad-spec : {M : Type 1} → statement M
+lowest-bad-spec =
     tie.close
     (tie.spec
     Inv-loop
