@@ -80,6 +80,43 @@ fn average() {
     assert_eq!(end("average").state.reg(A0), total);
 }
 
+/// The sum of the four answers to one pair.
+fn answers(a: u32, b: u32) -> u32 {
+    let (signed_a, signed_b) = (i64::from(a as i32), i64::from(b as i32));
+    [
+        a.checked_div(b).unwrap_or(u32::MAX),
+        a.checked_rem(b).unwrap_or(a),
+        signed_a.checked_div(signed_b).unwrap_or(-1) as u32,
+        signed_a.checked_rem(signed_b).unwrap_or(signed_a) as u32,
+    ]
+    .into_iter()
+    .fold(0, u32::wrapping_add)
+}
+
+#[test]
+fn divide() {
+    let lowest = 1 << 31;
+    let (mut y, mut sum) = (1_u32, 0_u32);
+    for _ in 0..400_000 {
+        let x = y.wrapping_mul(1_664_525).wrapping_add(sum);
+        let pairs = [
+            (x >> 14, y >> 26),
+            (x, y >> 16),
+            (y >> 16, x | lowest),
+            ((x as i32 >> 8) as u32, (y as i32 >> 20) as u32),
+            (0, x),
+            (x, 0),
+            (x, x),
+            (lowest, u32::MAX),
+        ];
+        for (a, b) in pairs {
+            sum = sum.wrapping_add(answers(a, b));
+        }
+        y = x;
+    }
+    assert_eq!(end("divide").state.reg(A0), sum);
+}
+
 #[test]
 fn binary_search() {
     let mut random = generator();
@@ -181,6 +218,7 @@ fn listings() {
         "insertion_sort",
         "crc",
         "average",
+        "divide",
         "binary_search",
         "matrix"
     );

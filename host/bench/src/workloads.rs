@@ -14,10 +14,11 @@ macro_rules! recipe {
     };
 }
 
-pub const WORKLOADS: [Workload; 5] = [
+pub const WORKLOADS: [Workload; 6] = [
     recipe!("insertion_sort"),
     recipe!("crc"),
     recipe!("average"),
+    recipe!("divide"),
     recipe!("binary_search"),
     recipe!("matrix"),
 ];
