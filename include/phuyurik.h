@@ -64,7 +64,7 @@ typedef enum phuyurik_refusal {
     PHUYURIK_ACCEPTED = 0,
     PHUYURIK_MEMORY_TOO_LONG = 1,     /* memory longer than 65,536 */
     PHUYURIK_ROW_LENGTH = 2,          /* row not 512 bytes */
-    PHUYURIK_ROW_RECORD = 3,          /* a row record breaks its rules */
+    PHUYURIK_ROW_RECORD = 3,          /* a row record breaks its rules; *word is the lowest that does */
     PHUYURIK_SLOT = 4,                /* slot buffer not a multiple of 144, or no such slot */
     PHUYURIK_ODD_PC = 5,              /* odd pc */
     PHUYURIK_ROOM = 6,                /* text room under 24 bytes */

@@ -14,6 +14,7 @@ int main(void) {
     refusal = phuyurik_run(&state, memory, sizeof memory, row, sizeof row, 100, &retired, &word);
     if (refusal != PHUYURIK_ACCEPTED) {
         fprintf(stderr, "refused: %s\n", phuyurik_refusal_text(refusal));
+        if (refusal == PHUYURIK_ROW_RECORD) fprintf(stderr, "it is the record of word %zu\n", word);
         return 1;
     }
     printf("%llu retired, stopped by %s, word 0 is %u\n", (unsigned long long)retired,

@@ -94,7 +94,8 @@ numbered! {
 }
 
 numbered! {
-    /// Why a run does not go on; `Paused` where it can. A malformed state may have another number.
+    /// Why a run does not go on; `Paused` where it can. A state with another number is refused with
+    /// [`Refusal::StopNumber`].
     ///
     /// ```
     /// use phuyurik::{State, Stop};

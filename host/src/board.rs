@@ -21,7 +21,7 @@ use phuyurik_sys as sys;
 /// row.as_mut()[8 * 17 + 4] = 1; // a mark with value 0
 /// let error = Board::new(&mut memory, &mut row).step(&mut state).unwrap_err();
 /// assert_eq!(error, Error::RowRecord { word: 17 });
-/// assert_eq!(error.to_string(), "word 17: refusal 3: a row record breaks its rules");
+/// assert_eq!(error.to_string(), "refusal 3: record of word 17 breaks its rules");
 /// # Ok::<(), Error>(())
 /// ```
 #[derive(Debug)]

@@ -112,7 +112,13 @@ impl fmt::Display for Error {
                 line,
                 byte,
             } => write!(f, "line {line}, byte {byte}: {refusal}"),
-            Error::RowRecord { word } => write!(f, "word {word}: {}", Refusal::RowRecord),
+            Error::RowRecord { word } => {
+                let number = Refusal::RowRecord.number();
+                write!(
+                    f,
+                    "refusal {number}: record of word {word} breaks its rules"
+                )
+            }
             Error::UnknownNumber(number) => write!(f, "{number} is not a number known here"),
             Error::Version { wrapper, archive } => {
                 let (wrapper, archive) = (Dotted(*wrapper), Dotted(*archive));
@@ -179,7 +185,7 @@ mod tests {
             let error = Error::Refused(*refusal).in_line(2, 8).of_word(17);
             assert_eq!(error.refusal(), Some(*refusal));
             let told = match refusal.number() {
-                3 => format!("word 17: {refusal}"),
+                3 => "refusal 3: record of word 17 breaks its rules".to_string(),
                 10..=12 => format!("line 2, byte 8: {refusal}"),
                 _ => refusal.to_string(),
             };

@@ -4,9 +4,12 @@ use phuyurik_sys as sys;
 use std::mem::{align_of, offset_of, size_of};
 
 /// A state: pc, x1 to x31, the retired count, a stop number and the address that belongs to the stop.
-/// Its bytes in memory are those of its record in a slot. Any numbers may stand here: a malformed
-/// state, one with an odd pc, a number that is no stop's or an address for a stop that has none, is
-/// refused by whatever would use it.
+/// Its bytes in memory are those of its record in a slot. Any numbers may stand here: whatever
+/// would use a state refuses it with the first that applies of
+/// [`Refusal::OddPc`](crate::Refusal::OddPc), for an odd pc,
+/// [`Refusal::StopNumber`](crate::Refusal::StopNumber), for a number that is no stop's, and
+/// [`Refusal::RecordEnd`](crate::Refusal::RecordEnd), for an address where the stop has none, or bytes
+/// between stop number and address that are not zero.
 ///
 /// ```
 /// use phuyurik::{State, Stop};
@@ -65,8 +68,8 @@ impl State {
         }
     }
 
-    /// Why the run does not go on; `Paused` where it can. A malformed state may have a number that is
-    /// no stop's.
+    /// Why the run does not go on; `Paused` where it can. The number may be no stop's, which is
+    /// refused with [`Refusal::StopNumber`](crate::Refusal::StopNumber).
     ///
     /// ```
     /// use phuyurik::{State, Stop};
@@ -94,7 +97,8 @@ impl State {
     }
 
     /// Gives the state this stop and its address, as a step that stops does. For a stop that has none
-    /// ([`Stop::has_address`]) any address but 0 makes the state malformed.
+    /// ([`Stop::has_address`]) any address but 0 is refused with
+    /// [`Refusal::RecordEnd`](crate::Refusal::RecordEnd).
     ///
     /// ```
     /// use phuyurik::{Board, Refusal, Row, State, Stop};
@@ -112,9 +116,10 @@ impl State {
     }
 
     /// Where the run stopped: pc for an illegal instruction, the halfword that could not be fetched
-    /// (at pc, or at pc + 2), the address that was loaded from or stored to. In a state that is not
-    /// malformed it is 0 for a stop that has none ([`Stop::has_address`]); also in a record that was
-    /// written before there were addresses.
+    /// (at pc, or at pc + 2), the address that was loaded from or stored to. For a stop that has
+    /// none ([`Stop::has_address`]) it is 0, or the state is refused with
+    /// [`Refusal::RecordEnd`](crate::Refusal::RecordEnd). It is 0, too, in a record that was written
+    /// before there were addresses.
     ///
     /// ```
     /// use phuyurik::{Board, Row, State, Stop};
@@ -137,7 +142,8 @@ impl State {
         self.stop_number
     }
 
-    /// As [`State::set_stop`], with any number: one of no stop makes the state malformed.
+    /// As [`State::set_stop`], with any number: one of no stop is refused with
+    /// [`Refusal::StopNumber`](crate::Refusal::StopNumber).
     ///
     /// ```
     /// use phuyurik::{Board, Refusal, Row, State};
@@ -201,7 +207,10 @@ impl State {
         registers
     }
 
-    /// The bytes of its record, as they are: a malformed state has a malformed record.
+    /// The bytes of its record, as they are: a state that is refused with
+    /// [`Refusal::OddPc`](crate::Refusal::OddPc),
+    /// [`Refusal::StopNumber`](crate::Refusal::StopNumber) or
+    /// [`Refusal::RecordEnd`](crate::Refusal::RecordEnd) has a record that is refused so.
     ///
     /// ```
     /// let mut state = phuyurik::State::fresh();
@@ -221,8 +230,11 @@ impl State {
         bytes
     }
 
-    /// The state of which these are the bytes. Nothing is checked:
-    /// [`Slots::read`](crate::Slots::read) refuses a malformed record.
+    /// The state of which these are the bytes. Nothing is checked: it is
+    /// [`Slots::read`](crate::Slots::read) that refuses, with
+    /// [`Refusal::OddPc`](crate::Refusal::OddPc),
+    /// [`Refusal::StopNumber`](crate::Refusal::StopNumber) or
+    /// [`Refusal::RecordEnd`](crate::Refusal::RecordEnd), bytes that are no state's.
     ///
     /// ```
     /// use phuyurik::{State, RECORD};
@@ -282,7 +294,7 @@ mod tests {
         assert_eq!(state.to_bytes(), bytes);
     }
 
-    /// Whatever stood after the old stop's number is gone, the zeros of a malformed state too.
+    /// Whatever stood after the old stop's number is gone, the bytes that must be zero too.
     #[test]
     fn a_stop_is_set_whole() {
         let stopped = State::from_bytes(std::array::from_fn(|at| at as u8));

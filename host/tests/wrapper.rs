@@ -273,7 +273,7 @@ fn refusals_carry_the_papers_words() {
     row[5] = 1;
     let error = Board::new(&mut [], &mut row).run(&mut State::fresh(), 1);
     let error = error.unwrap_err();
-    let words = "word 0: refusal 3: a row record breaks its rules";
+    let words = "refusal 3: record of word 0 breaks its rules";
     assert_eq!(error.to_string(), words);
     let mut room = [b'.'; 23];
     assert_eq!(put_text_of_word(0x73, &mut room), refused(Refusal::Room));

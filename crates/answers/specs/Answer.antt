@@ -1,4 +1,4 @@
--- An answer in the paper's terms: the values that were asked for, or a refusal's number and no other fact.
+-- An answer in the paper's terms: the values that were asked for, or a refusal's number. What a refusal tells besides is read apart: the word of 3, line and byte of 10 to 12.
 use Prim.Native.Nat.{ℕ}
 use Rattle.answers.specs.declared.Refusal.{Refusal}
 use Rattle.answers.specs.Refusals.{numberOf}

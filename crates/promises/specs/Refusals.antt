@@ -1,4 +1,4 @@
--- Demand 1 for the machine, the part and the slots: each refusal exactly if its row of the paper's table holds and no earlier one does, every lent byte kept, and no other fact returned.
+-- Demand 1 for the machine, the part and the slots: each refusal exactly if its row of the paper's table holds and no earlier one does, every lent byte kept, and no other fact returned but the word that 3 tells.
 -- Each statement is proved in proofs/Refusals.antt.
 use mathlib.Core.Path.{_≡_}
 use mathlib.Core.Bool.{true, false}

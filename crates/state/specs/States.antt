@@ -39,7 +39,7 @@ halted why s = state (s .pc) (s .x) (s .count) (stopNumber (why .stop)) (why .ad
 abbrev pub fresh : State
 fresh = state 0 (replicate 31 0) 0 0 0
 
--- what stands in an answer in the place of a state where there is none: its stop number is 255, so that it is malformed and refused wherever it is used
+-- what stands in an answer in the place of a state where there is none: its stop number is 255, so that it is refused with 14 wherever it is used
 abbrev pub noState : State
 noState = state 0 (replicate 31 0) 0 255 0
 

@@ -41,8 +41,9 @@ fn malformed(tally: &mut Tally, random: &mut Random, entry: Entry, faults: &[Ref
     for fault in faults.iter().rev() {
         spoil(random, &mut scene, *fault, &bad_words);
     }
-    let answer = scene::compare(tally, entry, &scene)?.answer;
-    direct::compare(tally, entry, &scene, answer)?;
+    let after = scene::compare(tally, entry, &scene)?;
+    direct::compare(tally, entry, &scene, &after)?;
+    let answer = after.answer;
     let lowest_word = bad_words.into_iter().min();
     let expected = faults.first().map(|lowest| Refused {
         number: lowest.number(),
@@ -79,7 +80,9 @@ fn spoil(random: &mut Random, scene: &mut Scene, refusal: Refusal, bad_words: &[
         }
         Refusal::Slot => spoil_slots(random, scene),
         Refusal::OddPc | Refusal::StopNumber | Refusal::RecordEnd => {
-            spoil_state(random, &mut scene.state, refusal);
+            let mut record = scene::to_proved(&scene.state).to_bytes();
+            spoil_record(random, &mut record, refusal);
+            scene.state = scene::to_second(&phuyurik::State::from_bytes(record));
             for record in scene.slots.chunks_exact_mut(RECORD) {
                 spoil_record(random, record, refusal);
             }
@@ -118,18 +121,6 @@ fn spoil_slots(random: &mut Random, scene: &mut Scene) {
     }
 }
 
-fn spoil_state(random: &mut Random, state: &mut second::State, refusal: Refusal) {
-    match refusal {
-        Refusal::OddPc => state.pc |= 1,
-        Refusal::StopNumber => state.stop = no_stop(random),
-        _ if random.once_in(2) => state.zero[random.length(0, 2)] = not_zero(random),
-        _ => {
-            state.stop = stop_without_address(random);
-            state.address = u32::from(not_zero(random)) << (8 * random.below(4));
-        }
-    }
-}
-
 fn no_stop(random: &mut Random) -> u8 {
     random.length(Stop::ALL.len(), 255) as u8
 }
@@ -147,11 +138,19 @@ fn spoil_record(random: &mut Random, record: &mut [u8], refusal: Refusal) {
     match refusal {
         Refusal::OddPc => record[0] |= 1,
         Refusal::StopNumber => record[STOP] = no_stop(random),
-        _ if random.once_in(2) => record[ZERO][random.length(0, 2)] = not_zero(random),
-        _ => {
-            record[STOP] = stop_without_address(random);
-            record[ADDRESS][random.length(0, 3)] = not_zero(random);
-        }
+        _ => spoil_record_end(random, record),
+    }
+}
+
+/// The zeros after the stop number, an address for a stop that has none, or both.
+fn spoil_record_end(random: &mut Random, record: &mut [u8]) {
+    let way = random.below(3);
+    if way != 0 {
+        record[ZERO][random.length(0, 2)] = not_zero(random);
+    }
+    if way != 1 {
+        record[STOP] = stop_without_address(random);
+        record[ADDRESS][random.length(0, 3)] = not_zero(random);
     }
 }
 

@@ -35,7 +35,7 @@ pub const STOP: usize = 136;
 pub const ZERO: Range<usize> = 137..140;
 pub const ADDRESS: Range<usize> = 140..144;
 
-fn to_proved(state: &State) -> phuyurik::State {
+pub fn to_proved(state: &State) -> phuyurik::State {
     let mut record = [0; RECORD];
     record[STOP] = state.stop;
     record[ZERO].copy_from_slice(&state.zero);
@@ -48,7 +48,7 @@ fn to_proved(state: &State) -> phuyurik::State {
     proved
 }
 
-fn to_second(proved: &phuyurik::State) -> State {
+pub fn to_second(proved: &phuyurik::State) -> State {
     let mut state = State {
         pc: proved.pc,
         count: proved.count,

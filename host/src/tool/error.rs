@@ -55,7 +55,7 @@ pub enum Error {
     Refused(PathBuf, Refusal),
     /// It refused something in particular of what a file holds: which, and why.
     RefusedFor(PathBuf, Refusal, String),
-    /// It refused a record that a file holds: which, and what stands there.
+    /// It refused a record that a file holds: its number, which record, and what stands there.
     Record(PathBuf, Refusal, String),
     /// It refused a line of a text, which is told with the line itself.
     Line(Refusal, String),
@@ -125,14 +125,12 @@ impl fmt::Display for Error {
     fn fmt(&self, f: &mut fmt::Formatter) -> fmt::Result {
         match self {
             Error::Usage(why) => write!(f, "{why} (see phuyurik --help)"),
-            Error::Of(_, path, why) => write!(f, "{}: {why}", path.display()),
+            Error::Of(_, path, why) | Error::Record(path, _, why) => {
+                write!(f, "{}: {why}", path.display())
+            }
             Error::Refused(path, refusal) => write!(f, "{}: {refusal}", path.display()),
             Error::RefusedFor(path, refusal, why) => {
                 write!(f, "{}: {refusal} ({why})", path.display())
-            }
-            Error::Record(path, refusal, told) => {
-                let (path, number) = (path.display(), refusal.number());
-                write!(f, "{path}: refusal {number}: {told}")
             }
             Error::Line(_, told) => f.write_str(told),
             Error::Fact(what) => write!(f, "demo: {what}"),

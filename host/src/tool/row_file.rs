@@ -20,27 +20,24 @@ pub fn row_in(path: &Path, bytes: &[u8]) -> Result<Row, Error> {
         .map_err(|error| refused(path, bytes, error))
 }
 
-/// Why the library refused these bytes of a row's file; of a record that breaks its rules also which
-/// it is, and which rule.
+/// Why the library refused these bytes of a row's file; of a record also what stands there.
 pub fn refused(path: &Path, bytes: &[u8], error: phuyurik::Error) -> Error {
     match error {
         phuyurik::Error::RowRecord { word } => {
-            let rule = broken_rule(&bytes[8 * word..][..8]);
-            let told = format!("record of word {word} breaks its rules: {rule}");
+            let told = format!("{error}: {}", fault(&bytes[8 * word..][..8]));
             Error::Record(path.to_path_buf(), Refusal::RowRecord, told)
         }
         other => Error::of_library(path, other),
     }
 }
 
-/// The rule that a refused record breaks.
-fn broken_rule(record: &[u8]) -> String {
+/// What stands in a refused record that breaks its rules.
+fn fault(record: &[u8]) -> String {
     let value = u32::from_le_bytes([record[0], record[1], record[2], record[3]]);
     match record[4] {
         _ if record[5..] != [0; 3] => "bytes 5 to 7 are not zero".to_string(),
-        0 => format!("mark 0 with value {value}, and a blank word has 0"),
-        1 => "mark 1 with value 0, and a burnt word has another".to_string(),
-        mark => format!("mark {mark}, and a mark is 0 or 1"),
+        mark @ 0..=1 => format!("mark {mark} with value {value}"),
+        mark => format!("mark {mark}"),
     }
 }
 

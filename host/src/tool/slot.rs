@@ -53,7 +53,8 @@ impl Slot<'_> {
         let refusal = error.refusal().filter(of_record);
         match refusal.zip(record::in_bytes(slots, self.k)) {
             Some((refusal, record)) => {
-                let told = format!("slot {}: {}", self.k, record::fault(&record, refusal));
+                let (number, fault) = (refusal.number(), record::fault(&record, refusal));
+                let told = format!("refusal {number}: slot {}: {fault}", self.k);
                 Error::Record(self.slots_path.to_path_buf(), refusal, told)
             }
             None => Error::of_library(self.slots_path, error),
