@@ -1,14 +1,14 @@
 -- The laws of an entry's shape: its tests decide, so its rows say when it is refused, a refusal leaves what was lent and says its number alone. Assumes nothing.
-use mathlib.Core.Path.{_≡_, refl, sym, ap, _∙_}
+use mathlib.Core.Path.{_≡_, refl, sym, ap, subst, _∙_}
 use mathlib.Core.Logic.{_↔_, ⊎-elim}
 use native.Mathlib.Omega.{arith}
-use mathlib.Core.Option.{Option}
+use mathlib.Core.Option.{Option, none}
 use Prim.Native.Nat.{ℕ}
 use Rattle.answers.specs.Checks.{wordTold}
 use Rattle.answers.specs.Answer.{Answer, given, refusedWith, refused}
 use Rattle.answers.specs.Refusals.{numberOf, wordOf}
 use Rattle.answers.specs.Outcomes.{Outcome, outcome, decided}
-use Rattle.answers.specs.Entries.{Refuses, Keeps, Silent}
+use Rattle.answers.specs.Entries.{Refuses, Keeps, Silent, SilentButWord}
 use Rattle.answers.proofs.Numbers.{number-of-one, three-tells}
 use Rattle.answers.proofs.Order.{apart, same-number, RefusedBy, Says}
 use Rattle.answers.specs.declared.Refusal.{Refusal}
@@ -24,6 +24,10 @@ is-refused o refusal before found e = rw (← found, e)
 pub is-given : {A B : Type 0} {c d : Check} {p o : Outcome A B} (refusal : Refusal → A) (before : B) → c ≡ d → c ≡ Passed → p ≡ o → p ≡ decided d o refusal before
 unfolding decided
 is-given refusal before found e h = rw (← found, e) h
+
+-- a check that is never refused with 3 tells no word
+untold : (c : Check) {n : ℕ} (r : Refusal) → numberOf r ≡ n → RefusedBy c n → (RefusedBy c 3 → ⊥) → wordOf r ≡ none
+untold c r e by never = ⊎-elim (λ f. absurd (never (subst (RefusedBy c) (sym e ∙ f .0) by))) (λ z. z .1) (three-tells r)
 
 -- `refusal` answers a refusal, which `read` reads as its number
 module _ {A B C : Type 0} (read : A → Answer C) (refusal : Refusal → A) (reads : (r : Refusal) → read (refusal r) ≡ refused r) where
@@ -47,10 +51,10 @@ module _ {A B C : Type 0} (read : A → Answer C) (refusal : Refusal → A) (rea
 
   -- the refusal that it was
   pub refused-as : (c : Check) (o : Outcome A B) (before : B) {v : C} (n : ℕ) → read (o .answer) ≡ given v → read (decided c o refusal before .answer) ≡ refusedWith n
-      → (r : Refusal) × (decided c o refusal before .answer ≡ refusal r) × (numberOf r ≡ n)
+      → (r : Refusal) × (decided c o refusal before .answer ≡ refusal r) × (numberOf r ≡ n) × RefusedBy c n
   unfolding decided
   refused-as Passed o before n e t = absurd (apart (sym e ∙ t))
-  refused-as (Refused r) o before n e t = (r, refl, same-number (sym (reads r) ∙ t))
+  refused-as (Refused r) o before n e t = (r, refl, same-number (sym (reads r) ∙ t), same-number (sym t ∙ reads r))
 
   -- of which `word` reads the word that it tells
   pub tells-as : (word : A → Option ℕ) → ((r : Refusal) → word (refusal r) ≡ wordOf r) → (c : Check) (o : Outcome A B) (before : B) {v : C} (n : ℕ)
@@ -59,9 +63,17 @@ module _ {A B C : Type 0} (read : A → Answer C) (refusal : Refusal → A) (rea
   tells-as word tells Passed o before n e t = absurd (apart (sym e ∙ t))
   tells-as word tells (Refused r) o before n e t = (same-number (sym t ∙ reads r), tells r)
 
-  pub silent : (word : A → Option ℕ) → ((r : Refusal) → word (refusal r) ≡ wordOf r) → {I : Type 0} (c : I → Check) (o : I → Outcome A B) (before : I → B) (v : I → C)
-      → ((i : I) → read (o i .answer) ≡ given (v i)) → Silent read word (λ i. decided (c i) (o i) refusal (before i))
-  silent word tells c o before v e i j n s t same =
+  pub silent : {I : Type 0} (c : I → Check) (o : I → Outcome A B) (before : I → B) (v : I → C) → ((i : I) → read (o i .answer) ≡ given (v i))
+      → ((i : I) → RefusedBy (c i) 3 → ⊥) → Silent read (λ i. decided (c i) (o i) refusal (before i))
+  silent c o before v e never i j n s t =
+      let p = refused-as (c i) (o i) (before i) n (e i) s in
+      let q = refused-as (c j) (o j) (before j) n (e j) t in
+      let one : wordOf (p .0) ≡ wordOf (q .0) = untold (c i) (p .0) (p .2) (p .3) (never i) ∙ sym (untold (c j) (q .0) (q .2) (q .3) (never j)) in
+      p .1 ∙ ap refusal (number-of-one (p .2 ∙ sym (q .2)) one) ∙ sym (q .1)
+
+  pub silent-but-word : (word : A → Option ℕ) → ((r : Refusal) → word (refusal r) ≡ wordOf r) → {I : Type 0} (c : I → Check) (o : I → Outcome A B) (before : I → B) (v : I → C)
+      → ((i : I) → read (o i .answer) ≡ given (v i)) → SilentButWord read word (λ i. decided (c i) (o i) refusal (before i))
+  silent-but-word word tells c o before v e i j n s t same =
       let p = refused-as (c i) (o i) (before i) n (e i) s in
       let q = refused-as (c j) (o j) (before j) n (e j) t in
       let w : n ≡ 3 → wordOf (p .0) ≡ wordOf (q .0) = λ three. sym (ap word (p .1) ∙ tells (p .0)) ∙ same three ∙ ap word (q .1) ∙ tells (q .0) in

@@ -14,8 +14,12 @@ Refuses read o rows = (n : ℕ) → (read (o .answer) ≡ refusedWith n) ↔ row
 abbrev pub Keeps : {A B C : Type 0} → (A → Answer C) → Outcome A B → B → Type 0
 Keeps read o before = (n : ℕ) → read (o .answer) ≡ refusedWith n → o .lent ≡ before
 
--- a refusal returns its number and no other fact, but for the word that 3 tells, which `word` reads: two calls that are refused with one number answer the same, whatever was lent to them, where it is not 3, or both tell one word
-abbrev pub Silent : {I A B C : Type 0} → (A → Answer C) → (A → Option ℕ) → (I → Outcome A B) → Type 0
-Silent {I} read word entry =
+-- a refusal returns its number and no other fact: two calls that are refused with one number answer the same, whatever was lent to them
+abbrev pub Silent : {I A B C : Type 0} → (A → Answer C) → (I → Outcome A B) → Type 0
+Silent {I} read entry = (i j : I) (n : ℕ) → read (entry i .answer) ≡ refusedWith n → read (entry j .answer) ≡ refusedWith n → entry i .answer ≡ entry j .answer
+
+-- but for the word that 3 tells, which `word` reads: where the number is 3, they answer the same if both tell one word
+abbrev pub SilentButWord : {I A B C : Type 0} → (A → Answer C) → (A → Option ℕ) → (I → Outcome A B) → Type 0
+SilentButWord {I} read word entry =
     (i j : I) (n : ℕ) → read (entry i .answer) ≡ refusedWith n → read (entry j .answer) ≡ refusedWith n → (n ≡ 3 → word (entry i .answer) ≡ word (entry j .answer))
     → entry i .answer ≡ entry j .answer

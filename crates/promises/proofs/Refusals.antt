@@ -1,28 +1,30 @@
 -- Each entry answers by its chain of tests, and a test that fails is its row of the table; the laws of an entry's shape do the rest. Assumes nothing.
-use mathlib.Core.Path.{_≡_, refl, sym, subst, _∙_}
-use mathlib.Core.Bool.{Bool, true, false, _&&_}
+use mathlib.Core.Path.{_≡_, refl, sym, ap, subst, _∙_}
+use mathlib.Core.Bool.{Bool, true, false, not, _&&_, _||_, and-eq-true-iff}
 use mathlib.Core.List.{List}
-use mathlib.Core.Logic.{_↔_}
-use mathlib.Core.Option.{none}
-use Prim.Native.Nat.{ℕ, _%_, _≤_, _<_}
+use mathlib.Core.Logic.{_↔_, _⊎_, inl, inr, ⊎-elim}
+use mathlib.Core.Option.{Option, none, some}
+use Prim.Native.Nat.{ℕ, suc, _%_}
 use native.Mathlib.Omega.{arith}
 use lib.ListN.{length}
 use lib.Dec.{eqb, leb}
-use borrow.Author.Tests.{leb-false, lt-leb, eqb-true, eqb-false, eq-eqb, ne-eqb}
+use borrow.Author.Tests.{leb-false, lt-leb, eqb-true, eqb-false, eq-eqb, ne-eqb, not-true}
 use Rattle.answers.specs.Checks.{unless, wordTold}
 use Rattle.answers.specs.Order.{refusal, noRefusal}
 use Rattle.answers.specs.Refusals.{numberOf, wordOf}
+use Rattle.answers.specs.Replies.{placed}
 use Rattle.answers.specs.Stops.{lastStop}
+use Rattle.answers.proofs.Numbers.{three-tells}
 use Rattle.answers.proofs.Checks.{both-passed}
 use Rattle.answers.proofs.Order.{RefusedBy, Says, no-rows, then-row, all-pass}
-use Rattle.answers.proofs.Entries.{exactly, accepts, keeps-lent, tells-as, silent}
+use Rattle.answers.proofs.Entries.{exactly, accepts, keeps-lent, tells-as, silent, silent-but-word}
 use Rattle.answers.specs.declared.Refusal.{Refusal}
 use Rattle.answers.specs.declared.Refusal.the-variants as R
 use Rattle.answers.specs.declared.Check.{Check}
 use Rattle.answers.specs.declared.Check.the-variants.{Passed, Refused}
 use Rattle.word.proofs.Bools.{and-fails}
 use Rattle.octets.specs.Bytes.{load}
-use Rattle.fuses.specs.Row.{keepsRules, allKeep, lowestBad}
+use Rattle.fuses.specs.Row.{valueAt, markAt, restAt, keepsRules, allKeep, lowestBad}
 use Rattle.fuses.proofs.Rows.{record-breaks, lowest-breaks, all-below, all-keep}
 use Rattle.state.specs.declared.State.{State}
 use Rattle.state.specs.States.{addressAllowed, formChecked, stateChecked}
@@ -34,18 +36,17 @@ use Rattle.machine.specs.declared.Stepped.{Stepped}
 use Rattle.machine.specs.declared.Ran.{Ran}
 use Rattle.machine.specs.Entries.{noStep, ofStepped, noRun, ofRan}
 use Rattle.records.specs.Records.{stateOf, recordChecked}
-use Rattle.slots.specs.declared.ReadBack.{ReadBack}
 use Rattle.slots.specs.Slots.{slotThere, slotAt, writeChecked, ofWrite, readChecked, noRead, ofReadBack}
 use Rattle.slots.proofs.Slots.{slot-is, no-slot}
 use Rattle.resume.specs.declared.Resumed.the-variants as A
 use Rattle.resume.specs.Resuming.{Bench, resumeChecked, ofResumed, wordResumed}
-use Rattle.promises.specs.Refusals.{OddPc, NoStop, boardRows, stateRows, recordRows, machineRows, writeRows, readRows, resumeRows, StepRefuses, RunRefuses, WriteRefuses, ReadRefuses, ResumeRefuses, StepKeeps, RunKeeps, WriteKeeps, ResumeKeeps, TellsLowest, LowestWord, NoOtherFact, BoardBefore, StateBefore, SlotBefore, RecordBefore, AcceptedAsBefore}
+use Rattle.promises.specs.Refusals.{OddPc, NoStop, boardRows, stateRows, recordRows, machineRows, writeRows, readRows, resumeRows, StepRefuses, RunRefuses, WriteRefuses, ReadRefuses, ResumeRefuses, StepKeeps, RunKeeps, WriteKeeps, ResumeKeeps, TellsLowest, LowestWord, OnlyThreeTells, NoOtherFact, RowRecordBefore, RulesAsBefore, BoardBefore, StateBefore, SlotBefore, RecordBefore, AcceptedAsBefore}
 use Rattle.promises.specs.Steps.{Accepted}
 use Rattle.promises.specs.Cuts.{SlotAccepted}
 
 -- ---- the chains of tests, row by row
 
-board-rows : (b : Board) (rest : Check) {later : ℕ → Type 0} → Says rest later → Says (boardChecked b rest) (boardRows b later)
+pub board-rows : (b : Board) (rest : Check) {later : ℕ → Type 0} → Says rest later → Says (boardChecked b rest) (boardRows b later)
 board-rows b rest q =
     then-row (leb (length (b .mem)) longestMemory) R.MemoryTooLong _ (leb-false _ _, lt-leb _ _)
     (then-row (eqb (length (b .row)) 512) R.RowLength _ (eqb-false _ _, ne-eqb _ _)
@@ -61,7 +62,7 @@ form-rows zeros s e =
 state-row : (s : State) → Says (stateChecked s) (stateRows s)
 state-row s = form-rows true s (stray-address s)
 
-record-row : (r : List ℕ) → Says (recordChecked r) (recordRows r)
+pub record-row : (r : List ℕ) → Says (recordChecked r) (recordRows r)
 record-row r = form-rows (eqb (load 3 137 r) 0) (stateOf r) (and-fails (eqb (load 3 137 r) 0) (addressAllowed (stateOf r)) (eqb-false _ _, ne-eqb _ _) (stray-address (stateOf r)))
 
 machine-rows : (w : World) → Says (checked w) (machineRows w)
@@ -131,12 +132,15 @@ quiet-form zeros s =
     (quiet-row (leb (s .stop) lastStop) R.StopNumber _ (λ e. omega arith) refl
     (quiet-row (zeros && addressAllowed s) R.RecordEnd Passed (λ e. omega arith) refl (λ n h. absurd h)))
 
-quiet-read : (k : ℕ) (slots : List ℕ) → Quiet (readChecked k slots)
+quiet-write : (k : ℕ) (s : State) (slots : List ℕ) → Quiet (writeChecked k s slots)
+quiet-write k s slots = quiet-row (slotThere k slots) R.Slot _ (λ e. omega arith) refl (quiet-form true s)
+
+pub quiet-read : (k : ℕ) (slots : List ℕ) → Quiet (readChecked k slots)
 quiet-read k slots =
     quiet-row (slotThere k slots) R.Slot _ (λ e. omega arith) refl (quiet-form (eqb (load 3 137 (slotAt k slots)) 0) (stateOf (slotAt k slots)))
 
 -- a board is refused with 3 for its lowest word
-board-tells : (b : Board) (rest : Check) → Quiet rest → (n : ℕ) → RefusedBy (boardChecked b rest) n → TellsLowest b n (wordTold (boardChecked b rest))
+pub board-tells : (b : Board) (rest : Check) → Quiet rest → (n : ℕ) → RefusedBy (boardChecked b rest) n → TellsLowest b n (wordTold (boardChecked b rest))
 board-tells b rest quiet n = go (leb (length (b .mem)) longestMemory) (eqb (length (b .row)) 512) (allKeep 64 (b .row)) refl
   where
     other : (c : Check) → (n ≡ 3 → ⊥) × (wordTold c ≡ none) → TellsLowest b n (wordTold c)
@@ -148,7 +152,7 @@ board-tells b rest quiet n = go (leb (length (b .mem)) longestMemory) (eqb (leng
     go true false k a q = other (Refused R.RowLength) (λ t. omega arith, refl)
     go true true false a q =
         let s = lowest-breaks 64 (b .row) a in
-        (λ t. (lowestBad 64 (b .row), refl, s .within, s .breaks, λ j h. all-below (lowestBad 64 (b .row)) j (b .row) (s .below) h), λ f. absurd (f q))
+        (λ t. (lowestBad 64 (b .row), refl, (s .within, s .breaks, λ j h. all-below (lowestBad 64 (b .row)) j (b .row) (s .below) h)), λ f. absurd (f q))
     go true true true a q = other rest (quiet n q)
 
 pub lowest-word : LowestWord
@@ -164,15 +168,47 @@ lowest-word = (
       subst (TellsLowest (h .board) n) (sym (q .1)) (board-tells (h .board) _ (quiet-read k (h .slots)) n (q .0)),
 )
 
+pub only-three-tells : OnlyThreeTells
+only-three-tells r = (
+  λ e. ⊎-elim (λ t. told (wordOf r) (t .1)) (λ f. absurd (f .0 e)) (three-tells r),
+  λ s.
+      let mine : (before : ℕ) → placed (wordOf r) before ≡ s .0 = λ before. ap (λ o. placed o before) (s .1) in
+      ⊎-elim (λ t. t .0) (λ f. absurd (omega (arith, mine (suc (s .0)), ap (λ o. placed o (suc (s .0))) (f .1)))) (three-tells r),
+)
+  where
+    told : (o : Option ℕ) → ((before : ℕ) → placed o before ≡ placed o 0) → (k : ℕ) × (o ≡ some k)
+    told none f = absurd (omega (arith, f 1))
+    told (some k) f = (k, refl)
+
 -- ---- what is accepted
 
 iff-then : {P Q R : Type 0} → P ↔ Q → Q ↔ R → P ↔ R
 iff-then f g = (λ p. g .0 (f .0 p), λ r. f .1 (g .1 r))
 
+one-holds : (a b : Bool) → (a || b) ≡ true → (a ≡ true) ⊎ (b ≡ true)
+one-holds true b e = inl refl
+one-holds false b e = inr e
+
+pub rules-as-before : RulesAsBefore
+rules-as-before k row = (there, back)
+  where
+    there : keepsRules k row ≡ true → RowRecordBefore k row
+    there e =
+        let p = and-eq-true-iff (eqb (restAt k row) 0) _ .0 e in (
+          eqb-true _ _ (p .0),
+          ⊎-elim
+              (λ t. let q = and-eq-true-iff (eqb (markAt k row) 1) _ .0 t in inl (eqb-true _ _ (q .0), eqb-false _ _ (not-true _ (q .1))))
+              (λ t. let q = and-eq-true-iff (eqb (markAt k row) 0) _ .0 t in inr (eqb-true _ _ (q .0), eqb-true _ _ (q .1)))
+              (one-holds (eqb (markAt k row) 1 && not (eqb (valueAt k row) 0)) _ (p .1)),
+        )
+
+    back : RowRecordBefore k row → keepsRules k row ≡ true
+    back h = rw (h .0) (⊎-elim (λ t. rw (t .0, ne-eqb (valueAt k row) 0 (t .1))) (λ t. rw (t .0, t .1)) (h .1))
+
 board-before : (b : Board) (rest : Check) {After : Type 0} → (rest ≡ Passed) ↔ After → (boardChecked b rest ≡ Passed) ↔ (BoardBefore b × After)
 board-before b rest q = (
-  λ e. let l = board-accepted b rest e in ((l .0 .short, l .0 .row .0, λ k h. all-below 64 k (b .row) (l .0 .row .1) h), q .0 (l .1)),
-  λ h. lendable-passes b rest (record { short = h .0 .0; row = (h .0 .1, all-keep 64 (b .row) (h .0 .2)) }) ∙ q .1 (h .1),
+  λ e. let l = board-accepted b rest e in ((l .0 .short, l .0 .row .0, λ k h. rules-as-before k (b .row) .0 (all-below 64 k (b .row) (l .0 .row .1) h)), q .0 (l .1)),
+  λ h. lendable-passes b rest (record { short = h .0 .0; row = (h .0 .1, all-keep 64 (b .row) (λ k l. rules-as-before k (b .row) .1 (h .0 .2 k l))) }) ∙ q .1 (h .1),
 )
 
 state-before : (s : State) → (stateChecked s ≡ Passed) ↔ StateBefore s
@@ -207,9 +243,9 @@ accepted-as-before = (
 
 pub no-other-fact : NoOtherFact
 no-other-fact = (
-  silent ofStepped noStep (λ r. refl) (λ (r : Stepped). wordTold (r .check)) (λ r. refl) checked _ (λ w. w .board) _ (λ w. refl),
-  silent ofRan noRun (λ r. refl) (λ (r : Ran). wordTold (r .check)) (λ r. refl) (λ i. checked (i .1)) _ (λ i. i .1 .board) _ (λ i. refl),
-  silent ofWrite Refused (λ r. refl) wordTold (λ r. refl) (λ i. writeChecked (i .0) (i .1) (i .2)) _ (λ i. i .2) _ (λ i. refl),
-  silent ofReadBack noRead (λ r. refl) (λ (r : ReadBack). wordTold (r .check)) (λ r. refl) (λ i. readChecked (i .0) (i .1)) _ (λ i. tt) _ (λ i. refl),
-  silent ofResumed A.Refused (λ r. refl) wordResumed (λ r. refl) (λ i. resumeChecked (i .1) (i .2)) _ (λ i. i .2) _ (λ i. refl),
+  silent-but-word ofStepped noStep (λ r. refl) (λ (r : Stepped). wordTold (r .check)) (λ r. refl) checked _ (λ w. w .board) _ (λ w. refl),
+  silent-but-word ofRan noRun (λ r. refl) (λ (r : Ran). wordTold (r .check)) (λ r. refl) (λ i. checked (i .1)) _ (λ i. i .1 .board) _ (λ i. refl),
+  silent ofWrite Refused (λ r. refl) (λ i. writeChecked (i .0) (i .1) (i .2)) _ (λ i. i .2) _ (λ i. refl) (λ i h. quiet-write (i .0) (i .1) (i .2) 3 h .0 refl),
+  silent ofReadBack noRead (λ r. refl) (λ i. readChecked (i .0) (i .1)) _ (λ i. tt) _ (λ i. refl) (λ i h. quiet-read (i .0) (i .1) 3 h .0 refl),
+  silent-but-word ofResumed A.Refused (λ r. refl) wordResumed (λ r. refl) (λ i. resumeChecked (i .1) (i .2)) _ (λ i. i .2) _ (λ i. refl),
 )

@@ -5,14 +5,15 @@ use mathlib.Core.Bool.{true, false}
 use mathlib.Core.Logic.{_↔_, _⊎_}
 use mathlib.Core.Option.{Option, none, some}
 use mathlib.Core.List.{List}
-use Prim.Native.Nat.{ℕ, _%_, _/_, _≤_, _<_}
+use Prim.Native.Nat.{ℕ, _+_, _*_, _%_, _/_, _≤_, _<_}
 use lib.ListN.{length}
-use Rattle.answers.specs.Stops.{lastStop, HasNoAddress}
 use Rattle.answers.specs.Answer.{Answer, refusedWith}
 use Rattle.answers.specs.Checks.{wordTold}
 use Rattle.answers.specs.Outcomes.{Outcome}
 use Rattle.answers.specs.Order.{refusal, noRefusal}
-use Rattle.answers.specs.Entries.{Refuses, Keeps, Silent}
+use Rattle.answers.specs.Refusals.{numberOf, wordOf}
+use Rattle.answers.specs.declared.Refusal.{Refusal}
+use Rattle.answers.specs.Entries.{Refuses, Keeps, Silent, SilentButWord}
 use Rattle.octets.specs.Bytes.{load}
 use Rattle.fuses.specs.Row.{keepsRules}
 use Rattle.state.specs.declared.State.{State}
@@ -22,7 +23,6 @@ use Rattle.machine.specs.declared.Stepped.{Stepped}
 use Rattle.machine.specs.declared.Ran.{Ran}
 use Rattle.machine.specs.Entries.{stepEntry, ofStepped, runEntry, ofRan}
 use Rattle.records.specs.Records.{stateOf}
-use Rattle.slots.specs.declared.ReadBack.{ReadBack}
 use Rattle.slots.specs.Slots.{slotAt, writeEntry, ofWrite, readEntry, ofReadBack}
 use Rattle.resume.specs.Resuming.{Bench, resumeEntry, ofResumed, wordResumed}
 
@@ -50,7 +50,7 @@ OddPc s = s .pc % 2 ≡ 1
 
 -- 14: a stop number out of range
 abbrev pub NoStop : State → Type 0
-NoStop s = lastStop < s .stop
+NoStop s = 10 < s .stop
 
 -- 15: an address that the stop number does not allow: it is not 3 to 9
 abbrev pub StrayAddress : State → Type 0
@@ -126,11 +126,13 @@ ResumeKeeps = (b k : ℕ) (h : Bench) → Keeps ofResumed (resumeEntry b k h) h
 
 -- ---- the word that 3 tells
 
--- of a board that is refused with 3, the lowest word whose record breaks the rules; with any other number none
+-- word k is the lowest whose record breaks the rules
+abbrev pub LowestBroken : Board → ℕ → Type 0
+LowestBroken b k = (k < 64) × (keepsRules k (b .row) ≡ false) × ((j : ℕ) → j < k → keepsRules j (b .row) ≡ true)
+
+-- of a board that is refused with 3, that word; with any other number none
 abbrev pub TellsLowest : Board → ℕ → Option ℕ → Type 0
-TellsLowest b n told =
-    (n ≡ 3 → (k : ℕ) × (told ≡ some k) × (k < 64) × (keepsRules k (b .row) ≡ false) × ((j : ℕ) → j < k → keepsRules j (b .row) ≡ true))
-    × ((n ≡ 3 → ⊥) → told ≡ none)
+TellsLowest b n told = (n ≡ 3 → (k : ℕ) × (told ≡ some k) × LowestBroken b k) × ((n ≡ 3 → ⊥) → told ≡ none)
 
 abbrev pub LowestWord : Type 0
 LowestWord =
@@ -138,25 +140,39 @@ LowestWord =
     × ((b : ℕ) (w : World) (n : ℕ) → ofRan (runEntry b w .answer) ≡ refusedWith n → TellsLowest (w .board) n (wordTold (runEntry b w .answer .check)))
     × ((b k : ℕ) (h : Bench) (n : ℕ) → ofResumed (resumeEntry b k h .answer) ≡ refusedWith n → TellsLowest (h .board) n (wordResumed (resumeEntry b k h .answer)))
 
--- ---- a refusal returns its number and no other fact, but for that word
+-- of all refusals, 3 tells a word and no other does
+abbrev pub OnlyThreeTells : Type 0
+OnlyThreeTells = (r : Refusal) → (numberOf r ≡ 3) ↔ ((k : ℕ) × (wordOf r ≡ some k))
+
+-- ---- a refusal returns its number and no other fact; where a row is lent, but for that word
 
 abbrev pub NoOtherFact : Type 0
 NoOtherFact =
-    Silent ofStepped (λ (r : Stepped). wordTold (r .check)) stepEntry
-    × Silent ofRan (λ (r : Ran). wordTold (r .check)) (λ (i : ℕ × World). runEntry (i .0) (i .1))
-    × Silent ofWrite wordTold (λ (i : ℕ × State × List ℕ). writeEntry (i .0) (i .1) (i .2))
-    × Silent ofReadBack (λ (r : ReadBack). wordTold (r .check)) (λ (i : ℕ × List ℕ). readEntry (i .0) (i .1))
-    × Silent ofResumed wordResumed (λ (i : ℕ × ℕ × Bench). resumeEntry (i .0) (i .1) (i .2))
+    SilentButWord ofStepped (λ (r : Stepped). wordTold (r .check)) stepEntry
+    × SilentButWord ofRan (λ (r : Ran). wordTold (r .check)) (λ (i : ℕ × World). runEntry (i .0) (i .1))
+    × Silent ofWrite (λ (i : ℕ × State × List ℕ). writeEntry (i .0) (i .1) (i .2))
+    × Silent ofReadBack (λ (i : ℕ × List ℕ). readEntry (i .0) (i .1))
+    × SilentButWord ofResumed wordResumed (λ (i : ℕ × ℕ × Bench). resumeEntry (i .0) (i .1) (i .2))
 
 -- ---- what is accepted is what was accepted when 5 stood for 5, 14 and 15
 
--- a board: memory of at most 65,536 bytes, a row of 512, and each record keeps the rules
+-- a record: bytes 5 to 7 zero, and mark 1 with a value other than 0, or mark 0 with value 0
+abbrev pub RowRecordBefore : ℕ → List ℕ → Type 0
+RowRecordBefore k row =
+    (load 3 (8 * k + 5) row ≡ 0)
+    × (((load 1 (8 * k + 4) row ≡ 1) × (load 4 (8 * k) row ≡ 0 → ⊥)) ⊎ ((load 1 (8 * k + 4) row ≡ 0) × (load 4 (8 * k) row ≡ 0)))
+
+-- those are the rules that refusal 3 asks for
+abbrev pub RulesAsBefore : Type 0
+RulesAsBefore = (k : ℕ) (row : List ℕ) → (keepsRules k row ≡ true) ↔ RowRecordBefore k row
+
+-- a board: memory of at most 65,536 bytes, a row of 512, and 64 such records
 abbrev pub BoardBefore : Board → Type 0
-BoardBefore b = (length (b .mem) ≤ 65536) × (length (b .row) ≡ 512) × ((k : ℕ) → k < 64 → keepsRules k (b .row) ≡ true)
+BoardBefore b = (length (b .mem) ≤ 65536) × (length (b .row) ≡ 512) × ((k : ℕ) → k < 64 → RowRecordBefore k (b .row))
 
 -- a state: an even pc, a stop number of at most 10, and no address with stop 0, 1, 2 or 10
 abbrev pub StateBefore : State → Type 0
-StateBefore s = (s .pc % 2 ≡ 0) × (s .stop ≤ 10) × (HasNoAddress (s .stop) → s .address ≡ 0)
+StateBefore s = (s .pc % 2 ≡ 0) × (s .stop ≤ 10) × ((s .stop ≡ 0) ⊎ (s .stop ≡ 1) ⊎ (s .stop ≡ 2) ⊎ (s .stop ≡ 10) → s .address ≡ 0)
 
 -- a slot that is there
 abbrev pub SlotBefore : ℕ → List ℕ → Type 0
