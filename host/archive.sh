@@ -6,7 +6,7 @@
 set -euo pipefail
 cd "$(dirname "$0")/.."
 exec 3>&2 2>&1
-exports='c_codes c_insts c_texts c_assembly c_slots c_runs'
+exports='c_codes c_insts c_texts c_assembly c_slots c_runs c_masked'
 machine=$(uname -m)
 
 # link_all FROM TO EXCEPT: a link in TO for each entry of FROM but one
@@ -70,7 +70,7 @@ archive() {
 
 echo "compiling $exports" >&3
 # two at a time; of these two rows neither waits long for the other
-archive c_codes c_texts c_slots &
+archive c_codes c_texts c_slots c_masked &
 archive c_insts c_assembly c_runs
 wait $!
 

@@ -42,7 +42,7 @@ extern "C" {
  */
 
 #define PHUYURIK_VERSION_MAJOR 0
-#define PHUYURIK_VERSION_MINOR 6
+#define PHUYURIK_VERSION_MINOR 7
 #define PHUYURIK_VERSION_PATCH 0
 #define PHUYURIK_VERSION                                                                                \
     (PHUYURIK_VERSION_MAJOR * 65536u + PHUYURIK_VERSION_MINOR * 256u + PHUYURIK_VERSION_PATCH)
@@ -76,8 +76,9 @@ typedef enum phuyurik_refusal {
     PHUYURIK_NO_SHORT_LINE = 12,      /* a line with `c:` without a short form */
     PHUYURIK_OUTPUT_ROOM = 13,        /* room shorter than the whole output */
     PHUYURIK_STOP_NUMBER = 14,        /* stop number out of range */
-    PHUYURIK_RECORD_END = 15          /* bytes 137 to 143 of a record, or a state's address, break
+    PHUYURIK_RECORD_END = 15,         /* bytes 137 to 143 of a record, or a state's address, break
                                        * their rules */
+    PHUYURIK_MASKS_SHARE = 16         /* masks that share a bit */
 } phuyurik_refusal;
 
 /* The words for a refusal's number; those for any other number say that it is none. */
@@ -99,6 +100,7 @@ static inline const char *phuyurik_refusal_text(unsigned number) {
         "room shorter than the whole output",
         "stop number out of range",
         "bytes 137 to 143 of a record, or a state's address, break their rules",
+        "masks that share a bit",
     };
     return number < sizeof texts / sizeof *texts ? texts[number] : "no refusal has this number";
 }
@@ -116,7 +118,8 @@ typedef enum phuyurik_stop {
     PHUYURIK_STORE_MISALIGNED = 7,
     PHUYURIK_STORE_OUTSIDE = 8,
     PHUYURIK_ALREADY_BURNT = 9,
-    PHUYURIK_COUNT_FULL = 10
+    PHUYURIK_COUNT_FULL = 10,
+    PHUYURIK_NOT_OWNED = 11
 } phuyurik_stop;
 
 /* The words for a stop's number; those for any other number say that it is none. */
@@ -127,12 +130,13 @@ static inline const char *phuyurik_stop_text(unsigned number) {
         "fetch outside",     "load misaligned",
         "load outside",      "store misaligned",
         "store outside",     "word already burnt",
-        "count full",
+        "count full",        "word not its own",
     };
     return number < sizeof texts / sizeof *texts ? texts[number] : "no stop has this number";
 }
 
-/* Whether a stop has an address, which a state carries with it: 3 to 9 have one, and no other number. */
+/* Whether a stop has an address, which a state carries with it: 3 to 9 and 11 have one, and no other
+ * number. */
 static inline int phuyurik_stop_has_address(unsigned number) {
     switch (number) {
     case PHUYURIK_ILLEGAL:
@@ -141,7 +145,8 @@ static inline int phuyurik_stop_has_address(unsigned number) {
     case PHUYURIK_LOAD_OUTSIDE:
     case PHUYURIK_STORE_MISALIGNED:
     case PHUYURIK_STORE_OUTSIDE:
-    case PHUYURIK_ALREADY_BURNT: return 1;
+    case PHUYURIK_ALREADY_BURNT:
+    case PHUYURIK_NOT_OWNED: return 1;
     default: return 0;
     }
 }
@@ -287,14 +292,14 @@ phuyurik_refusal phuyurik_assemble(const uint8_t *text, size_t text_size, uint8_
  *
  * A step that stops sets the stop number and the address:
  *
- *     stop            address
- *     3               pc
- *     4               of the halfword that could not be fetched: pc, or pc + 2 where the first was
- *                     within memory
- *     5, 6, 7, 8, 9   the address accessed: register plus immediate, modulo 2^32
- *     0, 1, 2, 10     0
+ *     stop                address
+ *     3                   pc
+ *     4                   of the halfword that could not be fetched: pc, or pc + 2 where the first was
+ *                         within memory
+ *     5, 6, 7, 8, 9, 11   the address accessed: register plus immediate, modulo 2^32
+ *     0, 1, 2, 10         0
  *
- * A state, and a record, is refused with 5 for an odd pc; then with 14 for a stop number above 10; then
+ * A state, and a record, is refused with 5 for an odd pc; then with 14 for a stop number above 11; then
  * with 15 for a `zero` that is not zero, or an address that is not 0 where the stop is 0, 1, 2 or 10.
  * With another stop any address is accepted: a record that was written before there were addresses has
  * 0 there. Programs do not name `zero`. */
@@ -351,8 +356,9 @@ static inline uint32_t phuyurik_word(const uint8_t *row, unsigned k) {
 
 /* ---- steps and runs
  *
- * mem is main memory, at address 0; row is the fuse row of the part. With refusal 3 the lowest word, 0
- * to 63, whose record breaks the rules goes into *word, also of phuyurik_run_slot; else *word stays:
+ * mem is main memory, at address 0; row is the fuse row of the part, of which every word is the recipe's
+ * own. With refusal 3 the lowest word, 0 to 63, whose record breaks the rules goes into *word, also of
+ * phuyurik_run_slot and of the masked calls; else *word stays:
  *
  *     refusal = phuyurik_step(&state, mem, mem_size, row, row_size, &word);
  *     if (refusal == PHUYURIK_ROW_RECORD) fprintf(stderr, "record of word %zu\n", word);
@@ -386,6 +392,60 @@ phuyurik_refusal phuyurik_read_slot(phuyurik_state *state, const uint8_t *slots,
 phuyurik_refusal phuyurik_run_slot(uint8_t *mem, size_t mem_size, uint8_t *row, size_t row_size,
                                    uint8_t *slots, size_t slots_size, size_t k, uint64_t budget,
                                    uint64_t *retired, size_t *word);
+
+/* ---- masks: two recipes, one row
+ *
+ * Two recipes, each with its own memory and state, may take turns on one row. Each call is given the
+ * recipe's own mask and the other recipe's: bit k (0 lowest) set means that word k is that recipe's. The
+ * other recipe's calls are given the same masks, swapped:
+ *
+ *     uint64_t reference = phuyurik_words(0, 31), oscillator = phuyurik_words(32, 63);
+ *     phuyurik_run_masked(&a, a_mem, a_size, row, sizeof row, reference, oscillator, 100, &n, &word);
+ *     phuyurik_run_masked(&b, b_mem, b_size, row, sizeof row, oscillator, reference, 100, &n, &word);
+ *
+ * A load or store at a word that is not in the own mask stops with 11: after misaligned and outside,
+ * and before already burnt, so whatever the word holds, and whatever is stored, also zero. A word of
+ * neither mask is nobody's, and stops both. Masks that share a bit are refused with 16.
+ *
+ * With the same masks in every call, a recipe may rely on this, also where the other runs between:
+ *
+ *   - the other's words, and nobody's, are never changed by its calls, nor its own words by the other's;
+ *   - what it gets back (state, memory, number retired, its own words) does not depend on what the
+ *     words that are not its own hold, as long as every record of the row keeps its rules: one that
+ *     breaks them is refused with 3, whoever owns the word;
+ *   - so its end is that of the whole budget on the first row, however the turns are cut.
+ *
+ * Neither a state nor its record has the masks: the program keeps them, and gives them to every call. A
+ * call without masks owns all words, so also phuyurik_run_slot where it carries on a run that had masks:
+ * it is the call with PHUYURIK_ALL_WORDS and 0, and is never refused with 16.
+ *
+ * The order is own, other, budget, the budget last: all three are uint64_t, and a compiler does not see
+ * that they were exchanged. */
+
+#define PHUYURIK_ALL_WORDS UINT64_MAX
+
+/* The mask of the words `first` to `last`, both included. Words above 63 do not count; where `first` is
+ * above `last` it is 0. */
+static inline uint64_t phuyurik_words(unsigned first, unsigned last) {
+    uint64_t from_first = first < PHUYURIK_WORDS ? PHUYURIK_ALL_WORDS << first : 0;
+    uint64_t behind_last = last < PHUYURIK_WORDS - 1 ? PHUYURIK_ALL_WORDS << (last + 1) : 0;
+    return from_first & ~behind_last;
+}
+
+/* phuyurik_step with masks. Refuses with 1, 2, 3, 16, 5, 14, 15. */
+phuyurik_refusal phuyurik_step_masked(phuyurik_state *state, uint8_t *mem, size_t mem_size, uint8_t *row,
+                                      size_t row_size, uint64_t own, uint64_t other, size_t *word);
+
+/* phuyurik_run with masks. Refuses with 1, 2, 3, 16, 5, 14, 15. */
+phuyurik_refusal phuyurik_run_masked(phuyurik_state *state, uint8_t *mem, size_t mem_size, uint8_t *row,
+                                     size_t row_size, uint64_t own, uint64_t other, uint64_t budget,
+                                     uint64_t *retired, size_t *word);
+
+/* phuyurik_run_slot with masks. Refuses with 1, 2, 3, 16, 4, 5, 14, 15. */
+phuyurik_refusal phuyurik_run_slot_masked(uint8_t *mem, size_t mem_size, uint8_t *row, size_t row_size,
+                                          uint8_t *slots, size_t slots_size, size_t k, uint64_t own,
+                                          uint64_t other, uint64_t budget, uint64_t *retired,
+                                          size_t *word);
 
 #undef PHUYURIK_ASSERT
 

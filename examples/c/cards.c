@@ -1,6 +1,7 @@
 /* Through the C interface: the paper's cards 1, 3, 7, 10, 11 (also with a budget of 3) and 12, the
  * recipe in pieces through a slot, its listing, the recipe assembled from its text, a word cleared and
- * trimmed, the addresses of stops, and eight refusals. Valid C11 and C++17. */
+ * trimmed, the addresses of stops, two recipes that take turns on one row, and nine refusals. Valid C11
+ * and C++17. */
 #include <phuyurik.h>
 
 #include <stdio.h>
@@ -241,7 +242,7 @@ static void bad_records(struct bench *b) {
     b->row[8 * 17 + 4] = 1; /* a mark with value 0 */
     b->row[8 * 40] = 1;     /* a value with mark 0 */
     b->state.pc = 1;
-    b->state.stop = 11;
+    b->state.stop = 12;
     b->state.address = 4;
     show_refusal(b);
     memset(b->row, 0, sizeof b->row);
@@ -253,6 +254,85 @@ static void bad_records(struct bench *b) {
     show_refusal(b);
     phuyurik_set_stop(&b->state, PHUYURIK_PAUSED);
     show_refusal(b);
+}
+
+/* Burns x2 into its first word, loads that back into x3, and then the word behind it. */
+static const uint8_t trim_and_stray[12] = {0x23, 0xA0, 0x20, 0x00,  /* sw x2,0(x1) */
+                                           0x83, 0xA1, 0x00, 0x00,  /* lw x3,0(x1) */
+                                           0x83, 0xA1, 0x40, 0x00}; /* lw x3,4(x1) */
+
+/* One recipe of two, with memory and state of its own. */
+struct sharer {
+    phuyurik_state state;
+    uint8_t memory[sizeof trim_and_stray];
+    uint64_t own;
+    uint64_t retired;
+};
+
+static void begin(struct sharer *s, unsigned first, unsigned last, uint32_t value) {
+    memset(&s->state, 0, sizeof s->state);
+    memcpy(s->memory, trim_and_stray, sizeof trim_and_stray);
+    s->own = phuyurik_words(first, last);
+    s->state.x[0] = 0x80000000u + 4 * first;
+    s->state.x[1] = value;
+    s->retired = 0;
+}
+
+/* A turn: at most so many steps on the row, where the other recipe has its own words. */
+static int take_turn(struct bench *b, struct sharer *s, const struct sharer *other, uint64_t budget) {
+    uint64_t retired = 0;
+    if (phuyurik_run_masked(&s->state, s->memory, sizeof s->memory, b->row, sizeof b->row, s->own,
+                            other->own, budget, &retired, &b->word)) {
+        return 1;
+    }
+    s->retired += retired;
+    return 0;
+}
+
+static void show_sharer(const char *name, const struct sharer *s) {
+    printf("%s: words %016llx, %llu retired, ", name, (unsigned long long)s->own,
+           (unsigned long long)s->retired);
+    show_stop(&s->state);
+    printf(", x3 is %u\n", (unsigned)phuyurik_reg(&s->state, 3));
+}
+
+/* A reference has word 0 and an oscillator word 1. Each stops where it leaves its own: the one at the
+ * other's word, which is burnt by then, the other at word 2, which is nobody's. Masks that share a bit
+ * are refused, also by the other two calls. */
+static int two_recipes(struct bench *b) {
+    struct sharer reference, oscillator;
+    uint8_t slots[PHUYURIK_RECORD_SIZE] = {0};
+    uint64_t all = PHUYURIK_ALL_WORDS, last = phuyurik_words(63, 63), retired = 77;
+    phuyurik_refusal step, slot;
+    memset(b->row, 0, sizeof b->row);
+    begin(&reference, 0, 0, 7);
+    begin(&oscillator, 1, 1, 9);
+    if (take_turn(b, &reference, &oscillator, 1) || take_turn(b, &oscillator, &reference, 2)) return 1;
+    if (take_turn(b, &reference, &oscillator, 9) || take_turn(b, &oscillator, &reference, 9)) return 1;
+    show_sharer("reference", &reference);
+    show_sharer("oscillator", &oscillator);
+    printf("word 0 is %u, word 1 is %u\n", (unsigned)phuyurik_word(b->row, 0),
+           (unsigned)phuyurik_word(b->row, 1));
+    start(b);
+    step = phuyurik_step_masked(&b->state, b->memory, sizeof b->memory, b->row, sizeof b->row, all, last,
+                                &b->word);
+    slot = phuyurik_run_slot_masked(b->memory, sizeof b->memory, b->row, sizeof b->row, slots,
+                                    sizeof slots, 0, last, all, 1, &retired, &b->word);
+    printf("refusals %u and %u, pc %u, %llu and %zu still there\n", (unsigned)step, (unsigned)slot,
+           (unsigned)b->state.pc, (unsigned long long)retired, b->word);
+    printf("%u is: %s\n", (unsigned)slot, phuyurik_refusal_text(slot));
+    return 0;
+}
+
+/* Masks of words: both ends are included, those above 63 do not count, and none is above the last. */
+static void words(void) {
+    static const unsigned ends[][2] = {{0, 0},     {32, 63}, {63, 63}, {0, 63},
+                                       {60, 1000}, {5, 4},   {64, 70}};
+    size_t i;
+    for (i = 0; i < sizeof ends / sizeof *ends; i++) {
+        printf("words %u to %u: %016llx\n", ends[i][0], ends[i][1],
+               (unsigned long long)phuyurik_words(ends[i][0], ends[i][1]));
+    }
 }
 
 /* Refusals leave everything as it was: no slot 2, and a room of 23 bytes. */
@@ -279,7 +359,8 @@ int main(void) {
     if (codes() || card_10(&b) || card_11(&b, 100) || card_12(&b) || card_11(&b, 3) || in_pieces(&b)) return 1;
     list(recipe, sizeof recipe);
     texts();
-    if (clear_and_trim(&b) || addresses(&b)) return 1;
+    if (clear_and_trim(&b) || addresses(&b) || two_recipes(&b)) return 1;
+    words();
     bad_records(&b);
     refusals(&b);
     return 0;

@@ -1,7 +1,7 @@
 /* Buffers with no bytes: a NULL pointer with size 0 is allowed in every call, and gets its answer. Every
  * expected number is the paper's: no memory is memory (the first fetch is outside), no row is refused
- * with 2, no slots with 4, no room with 6, or with 13 where a line gives something; no text gives
- * nothing. Valid C11 and C++17. */
+ * with 2, no slots with 4 (after 16), no room with 6, or with 13 where a line gives something; no text
+ * gives nothing. Valid C11 and C++17. */
 #include <phuyurik.h>
 
 #include <stdio.h>
@@ -40,6 +40,35 @@ static void runs(void) {
     expect("what was retired", retired, 0);
     expect("its stop", state.stop, PHUYURIK_FETCH_OUTSIDE);
     expect("a step after it", phuyurik_step(&state, NULL, 0, row, sizeof row, &word), 0);
+    expect("the word, which none told", word, 77);
+}
+
+static void masked(void) {
+    phuyurik_state state;
+    uint8_t row[PHUYURIK_ROW_SIZE] = {0};
+    uint64_t own = phuyurik_words(0, 31), other = phuyurik_words(32, 63), retired = 77;
+    size_t word = 77;
+    memset(&state, 0, sizeof state);
+    expect("a masked step with no row", phuyurik_step_masked(&state, NULL, 0, NULL, 0, own, own, &word),
+           PHUYURIK_ROW_LENGTH);
+    expect("a masked run with no row",
+           phuyurik_run_masked(&state, NULL, 0, NULL, 0, own, own, 9, &retired, &word),
+           PHUYURIK_ROW_LENGTH);
+    expect("a masked run of no slots",
+           phuyurik_run_slot_masked(NULL, 0, row, sizeof row, NULL, 0, 0, own, other, 9, &retired,
+                                    &word),
+           PHUYURIK_SLOT);
+    expect("the same with masks that share",
+           phuyurik_run_slot_masked(NULL, 0, row, sizeof row, NULL, 0, 0, own, own, 9, &retired,
+                                    &word),
+           PHUYURIK_MASKS_SHARE);
+    expect("what was retired", retired, 77);
+    expect("a masked run with no memory",
+           phuyurik_run_masked(&state, NULL, 0, row, sizeof row, own, other, 9, &retired, &word), 0);
+    expect("what was retired", retired, 0);
+    expect("its stop", state.stop, PHUYURIK_FETCH_OUTSIDE);
+    expect("a masked step after it",
+           phuyurik_step_masked(&state, NULL, 0, row, sizeof row, own, other, &word), 0);
     expect("the word, which none told", word, 77);
 }
 
@@ -87,6 +116,7 @@ static void assembler(void) {
 
 int main(void) {
     runs();
+    masked();
     slots();
     texts();
     assembler();

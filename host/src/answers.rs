@@ -90,6 +90,7 @@ numbered! {
         OutputRoom = 13: "room shorter than the whole output",
         StopNumber = 14: "stop number out of range",
         RecordEnd = 15: "bytes 137 to 143 of a record, or a state's address, break their rules",
+        MasksShare = 16: "masks that share a bit",
     }
 }
 
@@ -102,7 +103,7 @@ numbered! {
     /// assert_eq!(State::fresh().stop(), Ok(Stop::Paused));
     /// assert_eq!(Stop::try_from(9_u8), Ok(Stop::AlreadyBurnt));
     /// assert_eq!(Stop::AlreadyBurnt.to_string(), "word already burnt");
-    /// assert!(Stop::try_from(11_u8).is_err());
+    /// assert!(Stop::try_from(12_u8).is_err());
     /// ```
     Stop: u8, a "stop" {
         Paused = 0: "paused, can go on",
@@ -116,6 +117,7 @@ numbered! {
         StoreOutside = 8: "store outside",
         AlreadyBurnt = 9: "word already burnt",
         CountFull = 10: "count full",
+        NotOwned = 11: "word not its own",
     }
 }
 
@@ -132,6 +134,8 @@ pub enum Argument {
     Memory,
     /// The fuse row.
     Row,
+    /// The masks of a run: its own words, and the other's.
+    Masks,
     /// The buffer of slots, or which of them.
     Slots,
     /// A state, or the record of one.
@@ -159,6 +163,7 @@ impl Refusal {
         match self {
             Refusal::MemoryTooLong => Argument::Memory,
             Refusal::RowLength | Refusal::RowRecord => Argument::Row,
+            Refusal::MasksShare => Argument::Masks,
             Refusal::Slot => Argument::Slots,
             Refusal::OddPc | Refusal::StopNumber | Refusal::RecordEnd => Argument::State,
             Refusal::Room => Argument::Room,
@@ -200,7 +205,8 @@ impl Stop {
             | Stop::LoadOutside
             | Stop::StoreMisaligned
             | Stop::StoreOutside
-            | Stop::AlreadyBurnt => true,
+            | Stop::AlreadyBurnt
+            | Stop::NotOwned => true,
         }
     }
 }
@@ -223,9 +229,9 @@ impl fmt::Display for Stop {
 ///
 /// ```
 /// use phuyurik::Stop;
-/// let unknown = Stop::try_from(11_u8).unwrap_err();
-/// assert_eq!(unknown.number(), 11);
-/// assert_eq!(unknown.to_string(), "no stop has the number 11");
+/// let unknown = Stop::try_from(12_u8).unwrap_err();
+/// assert_eq!(unknown.number(), 12);
+/// assert_eq!(unknown.to_string(), "no stop has the number 12");
 /// ```
 #[derive(Clone, Copy, Debug, PartialEq, Eq, Hash)]
 pub struct UnknownNumber {
@@ -265,17 +271,17 @@ mod tests {
     #[test]
     fn numbers_leave_none_out() {
         let refusals = Refusal::ALL.iter().map(|refusal| refusal.number());
-        assert!(refusals.eq(1..=15));
+        assert!(refusals.eq(1..=16));
         let stops = Stop::ALL.iter().map(|stop| stop.number());
-        assert!(stops.eq(0..=10));
+        assert!(stops.eq(0..=11));
         let operations = Operation::ALL.iter().map(|operation| operation.number());
         assert!(operations.eq(0..=47));
     }
 
     #[test]
-    fn stops_3_to_9_have_an_address() {
+    fn stops_3_to_9_and_11_have_an_address() {
         let with = Stop::ALL.iter().filter(|stop| stop.has_address());
-        assert!(with.map(|stop| stop.number()).eq(3..=9));
+        assert!(with.map(|stop| stop.number()).eq((3..=9).chain([11])));
     }
 
     #[test]

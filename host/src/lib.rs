@@ -16,6 +16,8 @@
 //! assert_eq!(row.word(0), Word::Burnt(7));
 //! # Ok::<(), Error>(())
 //! ```
+//!
+//! Two recipes may take turns on one row, each with words of its own: [`Board::shared`].
 #![warn(missing_docs)]
 
 mod answers;
@@ -28,6 +30,7 @@ mod row;
 mod slots;
 mod state;
 mod texts;
+mod words;
 
 pub use answers::{Argument, Refusal, Stop, UnknownNumber};
 pub use assembly::{assemble, assemble_into};
@@ -42,6 +45,7 @@ pub use texts::{
     lines, list, listing, put_text_of, put_text_of_half, put_text_of_word, text_of, text_of_half,
     text_of_word, Lines,
 };
+pub use words::{Masks, UnreadableWords, Words};
 
 /// This package's version as one number, major * 65536 + minor * 256 + patch. A call of an archive
 /// that has another is [`Error::Version`].

@@ -75,8 +75,8 @@ impl State {
     /// use phuyurik::{State, Stop};
     /// let mut state = State::fresh();
     /// assert_eq!(state.stop(), Ok(Stop::Paused));
-    /// state.set_stop_number(11);
-    /// assert_eq!(state.stop().unwrap_err().to_string(), "no stop has the number 11");
+    /// state.set_stop_number(12);
+    /// assert_eq!(state.stop().unwrap_err().to_string(), "no stop has the number 12");
     /// ```
     pub fn stop(&self) -> Result<Stop, UnknownNumber> {
         Stop::try_from(self.stop_number)

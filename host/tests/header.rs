@@ -1,10 +1,12 @@
-//! The C header's numbers and words are the wrapper's.
+//! The C header's numbers and words are the wrapper's, and its calls those that are declared in Rust.
 use phuyurik::{
-    archive_version, Operation, Refusal, Stop, LINE, LONGEST_MEMORY, RECORD, ROOM, ROW, VERSION,
-    WORDS,
+    archive_version, Operation, Refusal, Stop, Words, LINE, LONGEST_MEMORY, RECORD, ROOM, ROW,
+    VERSION, WORDS,
 };
+use std::collections::BTreeMap;
 
 const HEADER: &str = include_str!("../../include/phuyurik.h");
+const DECLARED: &str = include_str!("../sys/src/lib.rs");
 
 /// What stands in the header between these two.
 fn between(start: &str, end: &str) -> &'static str {
@@ -53,6 +55,45 @@ fn defined(name: &str) -> Option<usize> {
         let is_it = words.next() == Some("#define") && words.next() == Some(&name);
         is_it.then(|| words.next()?.parse().ok()).flatten()
     })
+}
+
+/// Names with their parameters, by name.
+type Calls = BTreeMap<String, Vec<String>>;
+
+/// The calls that begin so in a text, each up to its end; `name` finds the name of a parameter.
+fn calls_in(text: &str, start: &str, end: &str, name: fn(&str) -> Option<&str>) -> Calls {
+    let call = |rest: &str| {
+        let (head, _) = rest.split_once(end).expect("a call has an end");
+        let (call, parameters) = head.split_once('(').expect("parameters");
+        let names = parameters.split(',').filter_map(name);
+        (call.to_string(), names.map(str::to_string).collect())
+    };
+    text.split(start).skip(1).map(call).collect()
+}
+
+/// Of `uint8_t *mem` it is the last word.
+fn name_in_c(parameter: &str) -> Option<&str> {
+    let words = |letter: char| letter.is_whitespace() || letter == '*';
+    parameter
+        .rsplit(words)
+        .next()
+        .filter(|name| *name != "void")
+}
+
+/// Of `mem: *mut u8` it is what stands before the colon; after the last comma there is none.
+fn name_in_rust(parameter: &str) -> Option<&str> {
+    parameter.split_once(':').map(|(name, _)| name.trim())
+}
+
+/// Every call of the header is declared, with the same parameters in the same order, and no other.
+#[test]
+fn calls() {
+    let mut header = calls_in(HEADER, "\nphuyurik_refusal ", ");", name_in_c);
+    header.extend(calls_in(HEADER, "\nuint32_t ", ");", name_in_c));
+    let declared = calls_in(DECLARED, "    pub fn ", ") -> u32;", name_in_rust);
+    assert_eq!(header, declared);
+    let masked = declared.keys().filter(|name| name.ends_with("_masked"));
+    assert_eq!((masked.count(), declared.len()), (3, 19));
 }
 
 #[test]
@@ -116,6 +157,8 @@ fn sizes() {
     for (name, size) in sizes {
         assert_eq!(defined(name), Some(size), "{name}");
     }
+    assert!(HEADER.contains("\n#define PHUYURIK_ALL_WORDS UINT64_MAX\n"));
+    assert_eq!(Words::ALL.mask(), u64::MAX);
     assert_eq!(size_of::<phuyurik::State>(), RECORD);
     assert_eq!(size_of::<phuyurik::Instruction>(), 5 * size_of::<u32>());
 }

@@ -1213,6 +1213,22 @@ fn a_copy_of_a_paused_run_is_told_from_it() {
     assert_eq!(folder.get("part.row"), burnt(4));
 }
 
+/// A run that was saved later and is gone keeps no other from going on.
+#[test]
+fn a_later_run_that_is_gone_is_no_copy() {
+    let folder = with_words(4);
+    assert_eq!(folder.run("--slot 0 --budget 6").code, 10);
+    let later = line_in("more.slots", "--budget 1 --restart");
+    assert_eq!(folder.call(&later).code, 10);
+    let line = run_line("--slot 0 --budget 100");
+    folder.fails(&line, 7, &["more.slots", "saved later"]);
+    for name in ["", ".0.memory", ".0.lock"] {
+        folder.remove(&format!("more.slots{name}"));
+    }
+    assert_eq!(folder.call(&line).code, 0);
+    assert_eq!(folder.get("part.row"), burnt(4));
+}
+
 // Point 10.
 
 #[test]

@@ -90,6 +90,18 @@ fn the_session_with_a_recipe_in_c() {
 }
 
 #[test]
+fn the_two_recipes_on_one_row() {
+    let folder = Folder::new();
+    let reference = include_bytes!("../../examples/reference_trim.bin");
+    folder.write("reference_trim.bin", reference);
+    let oscillator = include_bytes!("../../examples/oscillator_trim.bin");
+    folder.write("oscillator_trim.bin", oscillator);
+    let session = session("phuyurik run reference_trim.bin");
+    assert_eq!(session.len(), 5);
+    is_shown(&folder, &session);
+}
+
+#[test]
 fn the_fix_at_night() {
     let folder = Folder::new();
     let image = include_bytes!("../../examples/voltage_trim.bin");

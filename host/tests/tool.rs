@@ -264,7 +264,7 @@ const OF_A_FULL_COUNT: &str = "address 0x80000000 with stop 10, which has none";
 const RECORD_FAULTS: [(u8, [u8; 8], i32, &str); 8] = [
     (1, [0, 0, 0, 0, 0, 0, 0, 0], 35, "odd pc"),
     (1, [23, 0, 0, 1, 0, 0, 0, 1], 35, "odd pc"),
-    (2, [11, 0, 0, 0, 0, 0, 0, 0], 44, "stop number 11"),
+    (2, [12, 0, 0, 0, 0, 0, 0, 0], 44, "stop number 12"),
     (2, [23, 0, 0, 1, 0, 0, 0, 1], 44, "stop number 23"),
     (0, [0, 1, 0, 0, 0, 0, 0, 0], 45, NOT_ZERO),
     (0, [6, 0, 0, 1, 0, 0, 0, 1], 45, NOT_ZERO),

@@ -150,21 +150,21 @@ fn answers(record: [u8; RECORD]) -> [Result<(), Error>; 5] {
 /// Bytes 137 to 139 are zero with every stop; 140 to 143, the address, with those that have none.
 #[test]
 fn what_stands_after_a_stop() {
-    for (stop, at) in (0..=10).flat_map(|stop| (137..RECORD).map(move |at| (stop, at))) {
+    for (stop, at) in (0..=11).flat_map(|stop| (137..RECORD).map(move |at| (stop, at))) {
         let mut record = State::fresh().to_bytes();
         (record[136], record[at]) = (stop, 1);
         let answer = match (stop, at) {
-            (3..=9, 140..) => Ok(()),
+            (3..=9 | 11, 140..) => Ok(()),
             _ => refused(Refusal::RecordEnd),
         };
         assert_eq!(answers(record), [answer; 5], "stop {stop}, byte {at}");
     }
 }
 
-/// An odd pc, then a stop number above 10, then the bytes after it: whatever else is wrong.
+/// An odd pc, then a stop number above 11, then the bytes after it: whatever else is wrong.
 #[test]
 fn faults_of_a_state_are_told_in_order() {
-    for (at, stop) in (137..RECORD).flat_map(|at| [11, 23, 255].map(|stop| (at, stop))) {
+    for (at, stop) in (137..RECORD).flat_map(|at| [12, 23, 255].map(|stop| (at, stop))) {
         let mut record = State::fresh().to_bytes();
         (record[0], record[136], record[at]) = (1, stop, 1);
         assert_eq!(answers(record), [refused(Refusal::OddPc); 5]);
@@ -264,6 +264,129 @@ fn the_lowest_word_is_told() {
         assert_eq!(answers_of_row(&row), [answer; 3]);
         row.push(0);
         assert_eq!(answers_of_row(&row), [refused(Refusal::RowLength); 3]);
+    }
+}
+
+fn masks(own: u64, other: u64) -> Masks {
+    let (own, other) = (own.into(), other.into());
+    Masks { own, other }
+}
+
+/// What each call answers on a board with these masks, of which the row or the slot may be bad too. Nothing
+/// that was lent may change where it refuses.
+fn answers_of_masks(
+    masks: Masks,
+    row: &[u8],
+    record: [u8; RECORD],
+    k: usize,
+) -> [Result<(), Error>; 3] {
+    let (mut memory, mut lent, mut slots) = (RECIPE, row.to_vec(), Slots::new(record));
+    let (mut first, mut second) = (State::from_bytes(record), State::from_bytes(record));
+    let mut board = Board::shared(&mut memory, &mut lent, masks);
+    let all = [
+        board.step(&mut first),
+        board.run(&mut second, 9).map(|_| ()),
+        board.run_slot(&mut slots, k, 9).map(|_| ()),
+    ];
+    if all.iter().all(|answer| answer.is_err()) {
+        assert_eq!((&lent[..], memory), (row, RECIPE));
+        assert_eq!([first, second].map(|s| s.to_bytes()), [record; 2]);
+        assert_eq!(slots.into_inner(), record);
+    }
+    all
+}
+
+/// After memory and row, before slot and state; and any masks that share none are accepted.
+#[test]
+fn masks_that_share_a_word_are_refused() {
+    let (row, fresh) = ([0; ROW], State::fresh().to_bytes());
+    for k in 0..64 {
+        let shared = masks(1 << k, u64::MAX);
+        let answers = answers_of_masks(shared, &row, fresh, 0);
+        assert_eq!(answers, [refused(Refusal::MasksShare); 3]);
+        for apart in [
+            masks(1 << k, !(1 << k)),
+            masks(!(1 << k), 1 << k),
+            masks(0, 1 << k),
+        ] {
+            assert_eq!(answers_of_masks(apart, &row, fresh, 0), [Ok(()); 3]);
+        }
+    }
+    let (shared, mut bad) = (masks(3, 2), row);
+    (bad[8 * 40 + 7], bad[8 * 50 + 7]) = (1, 1);
+    let answers = answers_of_masks(shared, &bad, fresh, 0);
+    assert_eq!(answers, [Err(Error::RowRecord { word: 40 }); 3]);
+    let answers = answers_of_masks(shared, &bad[1..], fresh, 0);
+    assert_eq!(answers, [refused(Refusal::RowLength); 3]);
+    let answers = answers_of_masks(shared, &row, [0xFF; RECORD], 7);
+    assert_eq!(answers, [refused(Refusal::MasksShare); 3]);
+    let mut board = (vec![0; LONGEST_MEMORY + 1], Row::default());
+    let long = Board::shared(&mut board.0, &mut board.1, shared).step(&mut State::fresh());
+    assert_eq!(long, refused(Refusal::MemoryTooLong));
+}
+
+const LOAD: u32 = 0x0003_2283; // lw x5,0(x6)
+const STORE: u32 = 0x0053_2023; // sw x5,0(x6)
+const STORE_ZERO: u32 = 0x0003_2023; // sw x0,0(x6)
+
+/// One access at word k, with 9 in x5 and one word its own: the state, and word k afterwards.
+fn accessed(access: u32, k: u32, own: u32, row: &Row) -> (State, Word) {
+    let (mut memory, mut row, mut s) = (access.to_le_bytes(), row.clone(), State::fresh());
+    s.set_reg(5, 9);
+    s.set_reg(6, 0x8000_0000 + 4 * k);
+    let mut board = Board::shared(&mut memory, &mut row, masks(1 << own, 0));
+    board.step(&mut s).unwrap();
+    (s, row.word(k as usize))
+}
+
+/// At a word that is not its own a load and a store stop with 11, burnt or not, also with zero; a word of
+/// its own is loaded, burnt, or stops with 9.
+#[test]
+fn only_own_words_are_accessed() {
+    let (blank, burnt) = (Row::default(), [7, 0, 0, 0, 1, 0, 0, 0].repeat(WORDS));
+    let burnt = Row::try_from(&burnt[..]).unwrap();
+    for (k, row) in (0..64).flat_map(|k| [(k, &blank), (k, &burnt)]) {
+        let before = row.word(k as usize);
+        let at = |s: State| (s.stop(), s.address(), s.reg(5), s.count);
+        for (access, own) in [LOAD, STORE, STORE_ZERO].iter().flat_map(|a| {
+            let others = [(k + 1) % 64, (k + 63) % 64, (k + 32) % 64];
+            others.map(|own| (*a, own))
+        }) {
+            let (s, now) = accessed(access, k, own, row);
+            let stopped = (Ok(Stop::NotOwned), 0x8000_0000 + 4 * k, 9, 0);
+            assert_eq!((at(s), now), (stopped, before), "{access:08x} {k} {own}");
+        }
+        let (s, now) = accessed(LOAD, k, k, row);
+        let loaded = (Ok(Stop::Paused), 0, before.value(), 1);
+        assert_eq!((at(s), now), (loaded, before));
+        for (access, word) in [(STORE, Word::Burnt(9)), (STORE_ZERO, Word::Blank)] {
+            let (s, now) = accessed(access, k, k, row);
+            let expected = match before {
+                Word::Blank => ((Ok(Stop::Paused), 0, 9, 1), word),
+                _ => ((Ok(Stop::AlreadyBurnt), 0x8000_0000 + 4 * k, 9, 0), before),
+            };
+            assert_eq!((at(s), now), expected, "{access:08x} {k}");
+        }
+    }
+}
+
+/// What is misaligned or outside is so for everyone.
+#[test]
+fn misaligned_and_outside_come_before_not_owned() {
+    // lw x5,0(x6); sw x5,0(x6); lh x5,0(x6); sb x5,0(x6)
+    for (bits, offset, stop) in [
+        (0x0003_2283_u32, 2, Stop::LoadMisaligned),
+        (0x0053_2023, 1, Stop::StoreMisaligned),
+        (0x0003_2283, 256, Stop::LoadOutside),
+        (0x0053_2023, 256, Stop::StoreOutside),
+        (0x0003_1283, 4, Stop::LoadOutside),
+        (0x0053_0023, 4, Stop::StoreOutside),
+    ] {
+        let (mut memory, mut row, mut s) = (bits.to_le_bytes(), Row::default(), State::fresh());
+        s.set_reg(6, 0x8000_0000 + offset);
+        let mut board = Board::shared(&mut memory, &mut row, masks(0, u64::MAX));
+        board.step(&mut s).unwrap();
+        assert_eq!((s.stop(), s.address()), (Ok(stop), 0x8000_0000 + offset));
     }
 }
 

@@ -2,6 +2,7 @@
 use answers::Cause;
 use answers::Stop;
 use fuses::Stored;
+use fuses::is_own;
 use fuses::store_word;
 use fuses::value_of;
 use isa::LoadOp;
@@ -21,8 +22,11 @@ ghost use lib.ListN.{length};
 ghost use Rattle.octets.specs.Bytes.{load};
 ghost use Rattle.octets.specs.Widths.{widthBytes};
 ghost use Rattle.answers.specs.Outcomes.{outcome};
+ghost use Rattle.answers.specs.Stops.{cause};
+ghost use Rattle.answers.specs.declared.Stop.the-variants as S;
 ghost use Rattle.boards.specs.Boards.{board};
-ghost use Rattle.access.specs.Accesses.{loadWidth, extended, loaded, onTo, storeWidth, storedInRow, stored};
+ghost use Rattle.access.specs.declared.Effect.the-variants as E;
+ghost use Rattle.access.specs.Accesses.{loadWidth, extended, loadedFromRow, loaded, onTo, storeWidth, storedInRow, stored};
 
 // What an instruction does: a register gets a value and the next instruction is at pc, or the run stops.
 pub enum Effect {
@@ -66,10 +70,45 @@ fn extended_load(op: LoadOp, mem: &[u8], at: usize) -> u32
     }
 }
 
-// A load into rd from an address, before the instruction at next.
-pub fn load(op: LoadOp, rd: Reg, address: u32, next: u32, mem: &[u8], row: &[u8]) -> Effect
+// At a word that is not its own a run stops.
+fn not_owned(address: u32) -> Effect
+    ensures { λ r. ⌜ r ≡ E.Halt (cause S.NotOwned address) ⌝ }
+{
+    Effect::Halt(Cause {
+        stop: Stop::NotOwned,
+        address,
+    })
+}
+
+// A load into rd from word k of the row, which stands at an address.
+fn load_of_row(own: u64, row: &[u8], k: usize, rd: Reg, address: u32, next: u32) -> Effect
+    requires { ⌜ k < 64 ⌝ }
     requires { ⌜ length (now row) ≡ 512 ⌝ }
-    ensures { λ r. ⌜ r ≡ loaded op rd address next (board (now (mem .entry)) (now (row .entry))) ⌝ }
+    ensures { λ r. ⌜ r ≡ loadedFromRow own k rd address next (now (row .entry)) ⌝ }
+{
+    if !is_own(own, k) {
+        return not_owned(address);
+    }
+    Effect::Next {
+        rd,
+        value: value_of(row, k),
+        pc: next,
+    }
+}
+
+// A load into rd from an address, before the instruction at next. Of the row's words it may load its
+// own.
+pub fn load(
+    own: u64,
+    op: LoadOp,
+    rd: Reg,
+    address: u32,
+    next: u32,
+    mem: &[u8],
+    row: &[u8],
+) -> Effect
+    requires { ⌜ length (now row) ≡ 512 ⌝ }
+    ensures { λ r. ⌜ r ≡ loaded own op rd address next (board (now (mem .entry)) (now (row .entry))) ⌝ }
 {
     let place = place_of(address, load_width(op), mem.len());
     match place {
@@ -78,11 +117,7 @@ pub fn load(op: LoadOp, rd: Reg, address: u32, next: u32, mem: &[u8], row: &[u8]
             value: extended_load(op, mem, at),
             pc: next,
         },
-        Place::Fuse(k) => Effect::Next {
-            rd,
-            value: value_of(row, k),
-            pc: next,
-        },
+        Place::Fuse(k) => load_of_row(own, row, k, rd, address, next),
         Place::Misaligned => Effect::Halt(Cause {
             stop: Stop::LoadMisaligned,
             address,
@@ -106,11 +141,14 @@ fn on_to(next: u32) -> Effect
 }
 
 // A store of v to word k of the row, which stands at an address.
-fn store_in_row(row: &mut [u8], k: usize, v: u32, address: u32, next: u32) -> Effect
+fn store_in_row(own: u64, row: &mut [u8], k: usize, v: u32, address: u32, next: u32) -> Effect
     requires { ⌜ k < 64 ⌝ }
     requires { ⌜ length (now row) ≡ 512 ⌝ }
-    ensures { λ r. ⌜ outcome r (now (row .exit)) ≡ storedInRow k v address next (now (row .entry)) ⌝ }
+    ensures { λ r. ⌜ outcome r (now (row .exit)) ≡ storedInRow own k v address next (now (row .entry)) ⌝ }
 {
+    if !is_own(own, k) {
+        return not_owned(address);
+    }
     let stored = store_word(row, k, v);
     match stored {
         Stored::Done => on_to(next),
@@ -121,10 +159,19 @@ fn store_in_row(row: &mut [u8], k: usize, v: u32, address: u32, next: u32) -> Ef
     }
 }
 
-// A store of v at an address, before the instruction at next.
-pub fn store(op: StoreOp, v: u32, address: u32, next: u32, mem: &mut [u8], row: &mut [u8]) -> Effect
+// A store of v at an address, before the instruction at next. Of the row's words it may store to its
+// own.
+pub fn store(
+    own: u64,
+    op: StoreOp,
+    v: u32,
+    address: u32,
+    next: u32,
+    mem: &mut [u8],
+    row: &mut [u8],
+) -> Effect
     requires { ⌜ length (now row) ≡ 512 ⌝ }
-    ensures { λ r. ⌜ outcome r (board (now (mem .exit)) (now (row .exit))) ≡ stored op v address next (board (now (mem .entry)) (now (row .entry))) ⌝ }
+    ensures { λ r. ⌜ outcome r (board (now (mem .exit)) (now (row .exit))) ≡ stored own op v address next (board (now (mem .entry)) (now (row .entry))) ⌝ }
 {
     let width = store_width(op);
     let place = place_of(address, width, mem.len());
@@ -133,7 +180,7 @@ pub fn store(op: StoreOp, v: u32, address: u32, next: u32, mem: &mut [u8], row: 
             store_of(mem, at, width, v);
             on_to(next)
         }
-        Place::Fuse(k) => store_in_row(row, k, v, address, next),
+        Place::Fuse(k) => store_in_row(own, row, k, v, address, next),
         Place::Misaligned => Effect::Halt(Cause {
             stop: Stop::StoreMisaligned,
             address,

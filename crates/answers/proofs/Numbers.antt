@@ -28,10 +28,10 @@ abbrev refusalOf : Option ℕ → ℕ → Refusal
 refusalOf word n =
     getD
     (R.MemoryTooLong ∷ R.RowLength ∷ R.RowRecord (placed word 0) ∷ R.Slot ∷ R.OddPc ∷ R.Room ∷ R.NoInstruction ∷ R.Field ∷ R.NoShortForm ∷ R.Unreadable
-    ∷ R.NumberNotAllowed ∷ R.NoShortLine ∷ R.OutputRoom ∷ R.StopNumber ∷ R.RecordEnd ∷ [])
+    ∷ R.NumberNotAllowed ∷ R.NoShortLine ∷ R.OutputRoom ∷ R.StopNumber ∷ R.RecordEnd ∷ R.MasksShare ∷ [])
     (n - 1) R.MemoryTooLong
 
-pub refusal-numbered : (r : Refusal) → Numbered numberOf (refusalOf (wordOf r)) 1 15 r
+pub refusal-numbered : (r : Refusal) → Numbered numberOf (refusalOf (wordOf r)) 1 16 r
 refusal-numbered R.MemoryTooLong = (refl, lit≤ tt, lit≤ tt)
 refusal-numbered R.RowLength = (refl, lit≤ tt, lit≤ tt)
 refusal-numbered (R.RowRecord k) = (refl, lit≤ tt, lit≤ tt)
@@ -47,6 +47,7 @@ refusal-numbered R.NoShortLine = (refl, lit≤ tt, lit≤ tt)
 refusal-numbered R.OutputRoom = (refl, lit≤ tt, lit≤ tt)
 refusal-numbered R.StopNumber = (refl, lit≤ tt, lit≤ tt)
 refusal-numbered R.RecordEnd = (refl, lit≤ tt, lit≤ tt)
+refusal-numbered R.MasksShare = (refl, lit≤ tt, lit≤ tt)
 
 -- two refusals with one number, that tell one word, are one
 pub number-of-one : {p q : Refusal} → numberOf p ≡ numberOf q → wordOf p ≡ wordOf q → p ≡ q
@@ -69,6 +70,7 @@ three-tells R.NoShortLine = inr (λ e. omega arith, refl)
 three-tells R.OutputRoom = inr (λ e. omega arith, refl)
 three-tells R.StopNumber = inr (λ e. omega arith, refl)
 three-tells R.RecordEnd = inr (λ e. omega arith, refl)
+three-tells R.MasksShare = inr (λ e. omega arith, refl)
 
 -- ---- stops, from 1
 
@@ -85,6 +87,7 @@ stopOf n =
     ∷ S.StoreOutside
     ∷ S.AlreadyBurnt
     ∷ S.CountFull
+    ∷ S.NotOwned
     ∷ [])
     (n - 1) S.Ecall
 
@@ -99,6 +102,7 @@ stop-numbered S.StoreMisaligned = (refl, lit≤ tt, lit≤ tt)
 stop-numbered S.StoreOutside = (refl, lit≤ tt, lit≤ tt)
 stop-numbered S.AlreadyBurnt = (refl, lit≤ tt, lit≤ tt)
 stop-numbered S.CountFull = (refl, lit≤ tt, lit≤ tt)
+stop-numbered S.NotOwned = (refl, lit≤ tt, lit≤ tt)
 
 pub stop-of-one : {p q : Stop} → stopNumber p ≡ stopNumber q → p ≡ q
 stop-of-one e = one-to-one stopNumber stopOf (λ s. stop-numbered s .0) e

@@ -2,7 +2,7 @@
 use Prim.Native.Nat.{ℕ}
 use mathlib.Core.Option.{Option, none, some}
 use Rattle.answers.specs.declared.Refusal.{Refusal}
-use Rattle.answers.specs.declared.Refusal.the-variants.{MemoryTooLong, RowLength, RowRecord, Slot, OddPc, Room, NoInstruction, Field, NoShortForm, Unreadable, NumberNotAllowed, NoShortLine, OutputRoom, StopNumber, RecordEnd}
+use Rattle.answers.specs.declared.Refusal.the-variants.{MemoryTooLong, RowLength, RowRecord, Slot, OddPc, Room, NoInstruction, Field, NoShortForm, Unreadable, NumberNotAllowed, NoShortLine, OutputRoom, StopNumber, RecordEnd, MasksShare}
 
 abbrev pub numberOf : Refusal → ℕ
 -- memory longer than 65,536
@@ -35,6 +35,8 @@ numberOf OutputRoom = 13
 numberOf StopNumber = 14
 -- bytes 137 to 143 of a record break their rules, or a state has an address that its stop number does not allow
 numberOf RecordEnd = 15
+-- masks that share a bit
+numberOf MasksShare = 16
 
 -- the word that refusal 3 tells, the lowest whose record breaks the rules; no other refusal tells one
 abbrev pub wordOf : Refusal → Option ℕ
@@ -53,3 +55,4 @@ wordOf NoShortLine = none
 wordOf OutputRoom = none
 wordOf StopNumber = none
 wordOf RecordEnd = none
+wordOf MasksShare = none

@@ -1,12 +1,12 @@
 -- The stop numbers, as the paper's table lists them, and the address that belongs to a stop; 0 is no stop: paused, can go on.
 use Prim.Native.Nat.{ℕ}
-use mathlib.Core.Bool.{Bool, _&&_}
+use mathlib.Core.Bool.{Bool, _&&_, _||_}
 use mathlib.Core.Logic.{_⊎_}
 use mathlib.Core.Path.{_≡_}
-use lib.Dec.{leb}
+use lib.Dec.{eqb, leb}
 use Rattle.answers.specs.declared.Cause.{Cause}
 use Rattle.answers.specs.declared.Stop.{Stop}
-use Rattle.answers.specs.declared.Stop.the-variants.{Ecall, Ebreak, IllegalInstruction, FetchOutside, LoadMisaligned, LoadOutside, StoreMisaligned, StoreOutside, AlreadyBurnt, CountFull}
+use Rattle.answers.specs.declared.Stop.the-variants.{Ecall, Ebreak, IllegalInstruction, FetchOutside, LoadMisaligned, LoadOutside, StoreMisaligned, StoreOutside, AlreadyBurnt, CountFull, NotOwned}
 
 abbrev pub stopNumber : Stop → ℕ
 stopNumber Ecall = 1
@@ -20,14 +20,16 @@ stopNumber StoreOutside = 8
 -- word already burnt
 stopNumber AlreadyBurnt = 9
 stopNumber CountFull = 10
+-- word not in the own mask
+stopNumber NotOwned = 11
 
 -- the highest of them
 abbrev pub lastStop : ℕ
-lastStop = 10
+lastStop = 11
 
--- stops 3 to 9 have an address
+-- stops 3 to 9 and 11 have an address
 abbrev pub located : ℕ → Bool
-located n = leb 3 n && leb n 9
+located n = (leb 3 n && leb n 9) || eqb n 11
 
 -- paused, ecall, ebreak and count full have none
 abbrev pub HasNoAddress : ℕ → Type 0

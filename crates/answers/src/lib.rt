@@ -22,6 +22,7 @@ pub enum Refusal {
     OutputRoom,
     StopNumber,
     RecordEnd,
+    MasksShare,
 }
 
 impl Refusal {
@@ -44,6 +45,7 @@ impl Refusal {
             Refusal::OutputRoom => 13,
             Refusal::StopNumber => 14,
             Refusal::RecordEnd => 15,
+            Refusal::MasksShare => 16,
         }
     }
 
@@ -67,6 +69,7 @@ impl Refusal {
             Refusal::OutputRoom => 0,
             Refusal::StopNumber => 0,
             Refusal::RecordEnd => 0,
+            Refusal::MasksShare => 0,
         }
     }
 }
@@ -89,6 +92,7 @@ pub enum Stop {
     StoreOutside,
     AlreadyBurnt,
     CountFull,
+    NotOwned,
 }
 
 impl Stop {
@@ -106,6 +110,7 @@ impl Stop {
             Stop::StoreOutside => 8,
             Stop::AlreadyBurnt => 9,
             Stop::CountFull => 10,
+            Stop::NotOwned => 11,
         }
     }
 }

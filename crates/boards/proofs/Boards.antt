@@ -1,43 +1,57 @@
--- The checks of memory and row, and those that follow: where one of the three refuses, the rest does not matter; where all pass, the rest decides. A store leaves a sound board sound. Assumes nothing.
+-- The checks of memory, row and masks, and those that follow: where one of the four refuses, the rest does not matter; where all pass, the rest decides. A store leaves a sound board sound. Assumes nothing.
 use Prim.Native.Nat.{ℕ, _+_, _≤_, _<_}
 use mathlib.Core.Path.{_≡_, refl}
+use mathlib.Core.Bool.{true}
+use mathlib.Core.List.{List}
 use lib.ListN.{length}
 use lib.Dec.{eqb, leb}
 use borrow.Author.Tests.{eqb-true, eq-eqb, leb-true, le-leb}
 use Rattle.answers.proofs.Checks.{both-passed, refused-on, passed-on}
 use Rattle.answers.specs.declared.Refusal.{Refusal}
-use Rattle.answers.specs.declared.Refusal.the-variants.{MemoryTooLong, RowLength, RowRecord}
+use Rattle.answers.specs.declared.Refusal.the-variants.{MemoryTooLong, RowLength, RowRecord, MasksShare}
 use Rattle.answers.specs.declared.Check.{Check}
 use Rattle.answers.specs.declared.Check.the-variants.{Passed, Refused}
 use Rattle.word.specs.Bits.{low}
 use Rattle.octets.specs.Bytes.{store}
 use Rattle.octets.proofs.Bytes.{length-store, store-below}
-use Rattle.fuses.specs.Row.{allKeep, lowestBad, Row, burnt}
+use Rattle.fuses.specs.Row.{allKeep, lowestBad, rowChecked, Row, burnt}
 use Rattle.fuses.proofs.Burning.{row-burnt, burnt-below}
-use Rattle.boards.specs.Boards.{Board, board, BoardFits, boardChecked, longestMemory}
+use Rattle.boards.specs.Boards.{Board, board, BoardFits, Masks, disjoint, startChecked, longestMemory}
 
 -- a board that the entries accept
 pub record Lendable (b : Board) : Type 0 where
   pub short : length (b .mem) ≤ longestMemory
   pub row : Row (b .row)
 
-module _ (b : Board) (rest : Check) where
-  pub board-refused : {r : Refusal} → boardChecked b Passed ≡ Refused r → boardChecked b rest ≡ Refused r
-  board-refused e = refused-on (leb (length (b .mem)) longestMemory) MemoryTooLong (refused-on (eqb (length (b .row)) 512) RowLength (refused-on (allKeep 64 (b .row)) (RowRecord (lowestBad 64 (b .row))) (λ z. cc))) e
+-- ---- the row alone
 
-  pub board-passed : boardChecked b Passed ≡ Passed → boardChecked b rest ≡ rest
-  board-passed e = passed-on (leb (length (b .mem)) longestMemory) MemoryTooLong (passed-on (eqb (length (b .row)) 512) RowLength (passed-on (allKeep 64 (b .row)) (RowRecord (lowestBad 64 (b .row))) (λ z. refl))) e
+module _ (row : List ℕ) (rest : Check) where
+  pub row-refused : {c : Check} {r : Refusal} → (c ≡ Refused r → rest ≡ Refused r) → rowChecked row c ≡ Refused r → rowChecked row rest ≡ Refused r
+  row-refused f e = refused-on (eqb (length row) 512) RowLength (refused-on (allKeep 64 row) (RowRecord (lowestBad 64 row)) f) e
+
+  pub row-passed : {c q : Check} → (c ≡ Passed → rest ≡ q) → rowChecked row c ≡ Passed → rowChecked row rest ≡ q
+  row-passed f e = passed-on (eqb (length row) 512) RowLength (passed-on (allKeep 64 row) (RowRecord (lowestBad 64 row)) f) e
+
+-- ---- all of it
+
+module _ (b : Board) (m : Masks) (rest : Check) where
+  pub start-refused : {r : Refusal} → startChecked b m Passed ≡ Refused r → startChecked b m rest ≡ Refused r
+  start-refused e = refused-on (leb (length (b .mem)) longestMemory) MemoryTooLong (row-refused (b .row) _ (refused-on (disjoint m) MasksShare (λ z. cc))) e
+
+  pub start-passed : startChecked b m Passed ≡ Passed → startChecked b m rest ≡ rest
+  start-passed e = passed-on (leb (length (b .mem)) longestMemory) MemoryTooLong (row-passed (b .row) _ (passed-on (disjoint m) MasksShare (λ z. refl))) e
 
   -- where all passed, so did the rest
-  pub board-accepted : boardChecked b rest ≡ Passed → Lendable b × (rest ≡ Passed)
-  board-accepted e =
-      let m = both-passed (leb (length (b .mem)) longestMemory) MemoryTooLong _ e in
-      let l = both-passed (eqb (length (b .row)) 512) RowLength _ (m .1) in
-      let r = both-passed (allKeep 64 (b .row)) (RowRecord (lowestBad 64 (b .row))) rest (l .1) in
-      (record { short = leb-true _ _ (m .0); row = (eqb-true _ _ (l .0), r .0) }, r .1)
+  pub start-accepted : startChecked b m rest ≡ Passed → Lendable b × (disjoint m ≡ true) × (rest ≡ Passed)
+  start-accepted e =
+      let s = both-passed (leb (length (b .mem)) longestMemory) MemoryTooLong _ e in
+      let l = both-passed (eqb (length (b .row)) 512) RowLength _ (s .1) in
+      let r = both-passed (allKeep 64 (b .row)) (RowRecord (lowestBad 64 (b .row))) _ (l .1) in
+      let d = both-passed (disjoint m) MasksShare rest (r .1) in
+      (record { short = leb-true _ _ (s .0); row = (eqb-true _ _ (l .0), r .0) }, d .0, d .1)
 
-  pub lendable-passes : Lendable b → boardChecked b rest ≡ rest
-  lendable-passes h = rw (le-leb (length (b .mem)) longestMemory (h .short), eq-eqb (length (b .row)) 512 (h .row .0), h .row .1)
+  pub start-passes : Lendable b → disjoint m ≡ true → startChecked b m rest ≡ rest
+  start-passes h d = rw (le-leb (length (b .mem)) longestMemory (h .short), eq-eqb (length (b .row)) 512 (h .row .0), h .row .1, d)
 
 -- ---- what a store leaves of a board
 

@@ -12,9 +12,9 @@ use Rattle.answers.specs.Outcomes.{Outcome}
 use Rattle.answers.specs.Replies.{told}
 use Rattle.calls.specs.Calls.{numbersOf}
 
--- the version of the interface, 0.6.0: major * 65,536 + minor * 256 + patch
+-- the version of the interface, 0.7.0: major * 65,536 + minor * 256 + patch
 abbrev pub version : ℕ
-version = 0x000600
+version = 0x000700
 
 -- an instruction in the answer as its five numbers
 abbrev pub numbered : Answer Inst → Answer (List ℕ)

@@ -7,7 +7,7 @@ ghost use mathlib.Core.Path.{_≡_};
 ghost use Rattle.answers.specs.Outcomes.{outcome};
 ghost use Rattle.c_codes.specs.Codes.{version, chartCall, decodeCall, expandCall};
 
-const VERSION: u32 = 0x000600;
+const VERSION: u32 = 0x000700;
 
 // The version of this interface.
 #[no_mangle]

@@ -24,7 +24,8 @@ use Rattle.state.specs.States.{registerOf, stateChecked}
 use Rattle.state.proofs.Laws.{register-lt, form-passes, form-passed, formed-even, SoundState, SoundCause, Address, advanced-sound, halted-sound}
 use Rattle.alu.specs.Arithmetic.{sum, takes}
 use Rattle.alu.proofs.Bounds.{arith-lt, imm-lt, shift-lt, muldiv-lt}
-use Rattle.boards.proofs.Boards.{SoundBoard, board-accepted, lendable-passes, sound-store, sound-burnt}
+use Rattle.boards.specs.Boards.{disjoint}
+use Rattle.boards.proofs.Boards.{SoundBoard, start-accepted, start-passes, sound-store, sound-burnt}
 use Rattle.access.specs.Accesses.{Done, storeWidth}
 use Rattle.execute.specs.declared.Act.{Act}
 use Rattle.execute.specs.declared.Act.the-variants.{Sets, Loads, Stores, Ends}
@@ -38,16 +39,16 @@ use Rattle.engine.proofs.Walk.{by-asked, walk}
 
 -- what holds at every accepted start, and after every step from one
 abbrev pub Runnable : World → Type 0
-Runnable w = SoundState (w .st) × SoundBoard (w .board)
+Runnable w = SoundState (w .st) × SoundBoard (w .board) × (disjoint (w .masks) ≡ true)
 
 -- it is what the entries ask, with what the types say
 pub runnable-passes : (w : World) → Runnable w → checked w ≡ Passed
-runnable-passes w g = lendable-passes (w .board) (stateChecked (w .st)) (g .1 .1) ∙ form-passes true (w .st) refl (g .0 .1)
+runnable-passes w g = start-passes (w .board) (w .masks) (stateChecked (w .st)) (g .1 .1) (g .2) ∙ form-passes true (w .st) refl (g .0 .1)
 
 pub passes-runnable : (w : World) → Sized w → checked w ≡ Passed → Runnable w
 passes-runnable w z e =
-    let b = board-accepted (w .board) (stateChecked (w .st)) e in
-    ((z .state-fits, form-passed true (w .st) (b .1) .1), (z .board-fits, b .0))
+    let b = start-accepted (w .board) (w .masks) (stateChecked (w .st)) e in
+    ((z .state-fits, form-passed true (w .st) (b .2) .1), (z .board-fits, b .0), b .1)
 
 -- ---- what a step asks for
 
@@ -113,20 +114,25 @@ module _ (w : World) (g : Runnable w) where
 
   stop-fits : (a : Act) (why : Cause) → StopsBy a why → ActFits (w .st .count) a → SoundCause why
   stop-fits (Sets rd v pc) why by h = absurd by
-  stop-fits (Loads o rd a pc) why by h = ⊎-elim (λ e. rw e (h .0, refl)) (λ e. rw e (h .0, refl)) by
-  stop-fits (Stores o v a pc) why by h = ⊎-elim (λ e. rw e (h .0, refl)) (λ r. ⊎-elim (λ e. rw e (h .0, refl)) (λ e. rw e (h .0, refl)) r) by
+  stop-fits (Loads o rd a pc) why (inl e) h = rw e (h .0, refl)
+  stop-fits (Loads o rd a pc) why (inr (inl e)) h = rw e (h .0, refl)
+  stop-fits (Loads o rd a pc) why (inr (inr e)) h = rw e (h .0, refl)
+  stop-fits (Stores o v a pc) why (inl e) h = rw e (h .0, refl)
+  stop-fits (Stores o v a pc) why (inr (inl e)) h = rw e (h .0, refl)
+  stop-fits (Stores o v a pc) why (inr (inr (inl e))) h = rw e (h .0, refl)
+  stop-fits (Stores o v a pc) why (inr (inr (inr e))) h = rw e (h .0, refl)
   stop-fits (Ends c) why by h = subst SoundCause (sym by) h
 
-  runnable-after : {a : Act} {d : Done} → Comes (w .board) a d → ActFits (w .st .count) a → Runnable (after d (w .st))
+  runnable-after : {a : Act} {d : Done} → Comes (w .masks .own) (w .board) a d → ActFits (w .st .count) a → Runnable (after d w)
   unfolding applied
-  runnable-after (sets rd v pc) h = (advanced-sound rd v pc (w .st) (h .0) (h .1 .0) (h .1 .1) (g .0), g .1)
-  runnable-after (loads o rd a pc v fits) h = (advanced-sound rd v pc (w .st) (fits (g .1 .0)) (h .1 .0) (h .1 .1) (g .0), g .1)
+  runnable-after (sets rd v pc) h = (advanced-sound rd v pc (w .st) (h .0) (h .1 .0) (h .1 .1) (g .0), g .1, g .2)
+  runnable-after (loads o rd a pc v fits) h = (advanced-sound rd v pc (w .st) (fits (g .1 .0)) (h .1 .0) (h .1 .1) (g .0), g .1, g .2)
   runnable-after (into-memory o v a pc i e inside) h =
-      (advanced-sound x0 0 pc (w .st) (omega arith) (h .1 .0) (h .1 .1) (g .0), sound-store (widthBytes (storeWidth o)) i v (w .board) inside (g .1))
-  runnable-after (into-row o v a pc k e below z ne) h =
-      (advanced-sound x0 0 pc (w .st) (omega arith) (h .1 .0) (h .1 .1) (g .0), sound-burnt k v (w .board) below ne (g .1))
-  runnable-after (zero-into-row o v a pc k e z) h = (advanced-sound x0 0 pc (w .st) (omega arith) (h .1 .0) (h .1 .1) (g .0), g .1)
-  runnable-after (stops a why by) h = (halted-sound why (w .st) (stop-fits a why by h) (g .0), g .1)
+      (advanced-sound x0 0 pc (w .st) (omega arith) (h .1 .0) (h .1 .1) (g .0), sound-store (widthBytes (storeWidth o)) i v (w .board) inside (g .1), g .2)
+  runnable-after (into-row o v a pc k e below mine z ne) h =
+      (advanced-sound x0 0 pc (w .st) (omega arith) (h .1 .0) (h .1 .1) (g .0), sound-burnt k v (w .board) below ne (g .1), g .2)
+  runnable-after (zero-into-row o v a pc k e z) h = (advanced-sound x0 0 pc (w .st) (omega arith) (h .1 .0) (h .1 .1) (g .0), g .1, g .2)
+  runnable-after (stops a why by) h = (halted-sound why (w .st) (stop-fits a why by h) (g .0), g .1, g .2)
 
   runnable-step : Runnable (stepped w)
   runnable-step = walk w (λ c v. Runnable v) (λ e. g) (λ e d c. runnable-after c asked-fits)

@@ -23,7 +23,7 @@ use Rattle.access.specs.declared.Effect.the-variants.{Next, Halt}
 use Rattle.execute.specs.declared.Act.{Act}
 use Rattle.execute.specs.Execution.{performed}
 use Rattle.execute.proofs.Acts.{Comes, sets, loads, into-memory, into-row, zero-into-row, stops, StopsBy}
-use Rattle.engine.specs.Steps.{World, world, actAt, asked, applied, after, paused, stepped, ran, goesOn, completes, retired}
+use Rattle.engine.specs.Steps.{World, masked, onward, actAt, asked, applied, after, paused, stepped, ran, goesOn, completes, retired}
 use Rattle.engine.proofs.Walk.{walk}
 
 -- ---- runs
@@ -42,6 +42,20 @@ unfolding ran
 ran-stopped zero w h = refl
 ran-stopped (suc n) w h = rw (step-stopped w h) (ran-stopped n w h)
 
+-- ---- the masks stay
+
+masks-stepped : (w : World) → stepped w .masks ≡ w .masks
+masks-stepped w = walk w (λ c v. v .masks ≡ w .masks) (λ e. refl) (λ e d c. refl)
+
+pub masks-ran : (n : ℕ) (w : World) → ran n w .masks ≡ w .masks
+unfolding ran
+masks-ran zero w = refl
+masks-ran (suc n) w = masks-ran n (stepped w) ∙ masks-stepped w
+
+-- where a run left the state and the board, the whole world goes on
+pub ran-onward : (n : ℕ) (w : World) → onward w (ran n w .st) (ran n w .board) ≡ ran n w
+ran-onward n w = ap (λ m. masked m (ran n w .st) (ran n w .board)) (sym (masks-ran n w))
+
 -- ---- the retired count
 
 applied-count : (e : Effect) (s : State) → applied e s .count ≡ s .count + flag (goesOn e)
@@ -58,10 +72,10 @@ count-ran zero w = omega arith
 count-ran (suc n) w = let h = count-ran n (stepped w) in let k = count-stepped w in omega arith
 
 -- a run that ended in the state t
-pub count-grew : (budget : ℕ) (w : World) {t : State} {b : Board} → world t b ≡ ran budget w → t .count ≡ w .st .count + retired budget w
+pub count-grew : (budget : ℕ) (w : World) {t : State} {b : Board} → onward w t b ≡ ran budget w → t .count ≡ w .st .count + retired budget w
 count-grew budget w e = ap (λ (v : World). v .st .count) e ∙ count-ran budget w
 
-pub count-grew-by : (budget : ℕ) (w : World) {t : State} {b : Board} → world t b ≡ ran budget w → t .count - w .st .count ≡ retired budget w
+pub count-grew-by : (budget : ℕ) (w : World) {t : State} {b : Board} → onward w t b ≡ ran budget w → t .count - w .st .count ≡ retired budget w
 count-grew-by budget w e = let h = count-grew budget w e in omega arith
 
 -- what changes nothing grows no count
@@ -85,20 +99,20 @@ counts-up n w = (retired-le n w, count-ran n w)
 -- ---- a step that stops
 
 -- where an act stops, the board is as it was
-clean : {b : Board} {a : Act} {d : Done} → Comes b a d → goesOn (d .answer) ≡ false → (why : Cause) × StopsBy a why × (d ≡ outcome (Halt why) b)
+clean : {own : ℕ} {b : Board} {a : Act} {d : Done} → Comes own b a d → goesOn (d .answer) ≡ false → (why : Cause) × StopsBy a why × (d ≡ outcome (Halt why) b)
 clean (sets rd v pc) e = absurd (omega (arith, ap flag e))
 clean (loads o rd a pc v h) e = absurd (omega (arith, ap flag e))
 clean (into-memory o v a pc i p h) e = absurd (omega (arith, ap flag e))
-clean (into-row o v a pc k p h z ne) e = absurd (omega (arith, ap flag e))
+clean (into-row o v a pc k p h mine z ne) e = absurd (omega (arith, ap flag e))
 clean (zero-into-row o v a pc k p z) e = absurd (omega (arith, ap flag e))
 clean (stops a why h) e = (why, h, refl)
 
-pub stops-with : (w : World) → paused w ≡ true → completes w ≡ false → (why : Cause) × StopsBy (asked w) why × (stepped w ≡ world (halted why (w .st)) (w .board))
+pub stops-with : (w : World) → paused w ≡ true → completes w ≡ false → (why : Cause) × StopsBy (asked w) why × (stepped w ≡ onward w (halted why (w .st)) (w .board))
 unfolding applied
 stops-with w p =
-    walk w (λ c v. c ≡ false → (why : Cause) × StopsBy (asked w) why × (v ≡ world (halted why (w .st)) (w .board)))
+    walk w (λ c v. c ≡ false → (why : Cause) × StopsBy (asked w) why × (v ≡ onward w (halted why (w .st)) (w .board)))
     (λ e. absurd (omega (arith, ap flag (sym e ∙ p))))
-    (λ e d c f. let s = clean c f in (s .0, s .1, ap (λ o. after o (w .st)) (s .2)))
+    (λ e d c f. let s = clean c f in (s .0, s .1, ap (λ o. after o w) (s .2)))
 
 -- a step that completes leaves the stop number
 stays-paused : (w : World) → completes w ≡ true → paused (stepped w) ≡ true
@@ -138,18 +152,18 @@ ran-turn (suc n) w h e = let k : suc n - 1 ≡ n = omega arith in rw (k, e)
 
 -- a step comes to what its instruction asks for, performed and applied
 pub step-does : {a : Act} {e : Effect} {b : Board} {s : State} (w : World) → w .st .stop ≡ 0 → w .st .count < 2 ^ 64 - 1
-    → a ≡ actAt (w .st .pc) (w .st .x) (w .board .mem) → outcome e b ≡ performed a (w .board) → s ≡ applied e (w .st) → world s b ≡ stepped w
+    → a ≡ actAt (w .st .pc) (w .st .x) (w .board .mem) → outcome e b ≡ performed (w .masks .own) a (w .board) → s ≡ applied e (w .st) → onward w s b ≡ stepped w
 unfolding stepped asked
 step-does w h k t p e = rw (eq-eqb _ _ h, lt-ltb _ _ k, ← t, ← p, e)
 
 -- a step at the last count stops
-pub step-full : (w : World) → w .st .stop ≡ 0 → 2 ^ 64 - 1 ≤ w .st .count → world (halted (nowhere CountFull) (w .st)) (w .board) ≡ stepped w
+pub step-full : (w : World) → w .st .stop ≡ 0 → 2 ^ 64 - 1 ≤ w .st .count → onward w (halted (nowhere CountFull) (w .st)) (w .board) ≡ stepped w
 unfolding stepped asked performed applied
 step-full w h k = rw (eq-eqb _ _ h, le-ltb _ _ k)
 
 -- .. and so does the run
-pub ran-full : (n : ℕ) (w : World) → 0 < n → w .st .stop ≡ 0 → 2 ^ 64 - 1 ≤ w .st .count → world (halted (nowhere CountFull) (w .st)) (w .board) ≡ ran n w
+pub ran-full : (n : ℕ) (w : World) → 0 < n → w .st .stop ≡ 0 → 2 ^ 64 - 1 ≤ w .st .count → onward w (halted (nowhere CountFull) (w .st)) (w .board) ≡ ran n w
 ran-full n w p h k =
-    let full : World = world (halted (nowhere CountFull) (w .st)) (w .board) in
+    let full : World = onward w (halted (nowhere CountFull) (w .st)) (w .board) in
     let e : full ≡ stepped w = step-full w h k in
     sym (ran-stopped (n - 1) full (λ z. omega arith)) ∙ ran-turn n w p e

@@ -40,10 +40,10 @@ module _ (w : World) (P : Act → Type 0) (at-full : P (Ends (nowhere CountFull)
 
 -- what holds of a stopped world, and of what every way of the act asked for leaves, holds of a step: whether it completes, and the world after it
 pub walk : (w : World) (P : Bool → World → Type 0) → (paused w ≡ false → P false w)
-    → (paused w ≡ true → (d : Done) → Comes (w .board) (asked w) d → P (goesOn (d .answer)) (after d (w .st))) → P (completes w) (stepped w)
+    → (paused w ≡ true → (d : Done) → Comes (w .masks .own) (w .board) (asked w) d → P (goesOn (d .answer)) (after d w)) → P (completes w) (stepped w)
 unfolding stepped
 walk w P at-rest does = go (paused w) refl
   where
-    go : (b : Bool) → paused w ≡ b → P (b && goesOn (stepDone w .answer)) (cond b (after (stepDone w) (w .st)) w)
-    go true e = does e (stepDone w) (comes (w .board) (asked w))
+    go : (b : Bool) → paused w ≡ b → P (b && goesOn (stepDone w .answer)) (cond b (after (stepDone w) w) w)
+    go true e = does e (stepDone w) (comes (w .masks .own) (w .board) (asked w))
     go false e = at-rest e

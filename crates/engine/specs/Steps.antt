@@ -11,7 +11,7 @@ use Rattle.alu.specs.Arithmetic.{sum}
 use Rattle.state.specs.declared.State.{State}
 use Rattle.state.specs.Sizes.{Fits}
 use Rattle.state.specs.States.{written, advanced, halted, stateChecked}
-use Rattle.boards.specs.Boards.{Board, BoardFits, boardChecked}
+use Rattle.boards.specs.Boards.{Board, BoardFits, noMasks, startChecked, Masks}
 use Rattle.access.specs.Accesses.{Done}
 use Rattle.access.specs.declared.Effect.{Effect}
 use Rattle.access.specs.declared.Effect.the-variants.{Next, Halt}
@@ -22,22 +22,31 @@ use Rattle.fetch.specs.declared.Fetched.{Fetched}
 use Rattle.fetch.specs.declared.Fetched.the-variants.{Instruction, Fails}
 use Rattle.fetch.specs.Fetching.{fetched}
 
--- everything that a step can see or change: the state, and the board of main memory and fuse row
+-- everything that a step can see or change, the state, and the board of main memory and fuse row; and the masks, which no step changes
 pub record World : Type 0 where
   pub st : State
   pub board : Board
+  pub masks : Masks
 
+abbrev pub masked : Masks → State → Board → World
+masked m s b = record { st = s; board = b; masks = m }
+
+-- of a call without masks
 abbrev pub world : State → Board → World
-world s b = record { st = s; board = b }
+world s b = masked noMasks s b
+
+-- with the same masks, another state and board
+abbrev pub onward : World → State → Board → World
+onward w s b = masked (w .masks) s b
 
 -- what the types say of every world that there is: the state's numbers fit, and bytes are bytes
 pub record Sized (w : World) : Type 0 where
   pub state-fits : Fits (w .st)
   pub board-fits : BoardFits (w .board)
 
--- what the entries ask of a world before its first step: refusals 1, 2, 3 and 5
+-- what the entries ask of a world before its first step: refusals 1, 2, 3, 16, 5, 14 and 15
 abbrev pub checked : World → Check
-checked w = boardChecked (w .board) (stateChecked (w .st))
+checked w = startChecked (w .board) (w .masks) (stateChecked (w .st))
 
 -- ---- one step
 
@@ -55,21 +64,21 @@ asked w = cond (ltb (w .st .count) (2 ^ 64 - 1)) (actAt (w .st .pc) (w .st .x) (
 
 -- what comes of it
 abbrev pub stepDone : World → Done
-stepDone w = performed (asked w) (w .board)
+stepDone w = performed (w .masks .own) (asked w) (w .board)
 
 unfoldable pub applied : Effect → State → State
 applied (Next rd v pc) s = advanced pc (written rd v s)
 applied (Halt why) s = halted why s
 
-abbrev pub after : Done → State → World
-after d s = world (applied (d .answer) s) (d .lent)
+abbrev pub after : Done → World → World
+after d w = onward w (applied (d .answer) (w .st)) (d .lent)
 
 abbrev pub paused : World → Bool
 paused w = eqb (w .st .stop) 0
 
 -- a stopped state stays stopped
 unfoldable pub stepped : World → World
-stepped w = cond (paused w) (after (stepDone w) (w .st)) w
+stepped w = cond (paused w) (after (stepDone w) w) w
 
 -- ---- runs
 

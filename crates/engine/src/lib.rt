@@ -13,8 +13,8 @@ use state::State;
 ghost use mathlib.Core.Path.{_≡_};
 ghost use Prim.Native.Nat.{_+_, _<_, _^_};
 ghost use lib.ListN.{length};
-ghost use Rattle.boards.specs.Boards.{board};
-ghost use Rattle.engine.specs.Steps.{world, actAt, applied, ran};
+ghost use Rattle.boards.specs.Boards.{board, masks};
+ghost use Rattle.engine.specs.Steps.{masked, actAt, applied, ran};
 
 const FULL_COUNT: u64 = 18446744073709551615;
 
@@ -43,10 +43,18 @@ fn apply(s: State, e: Effect) -> State
     }
 }
 
-// At most budget steps, while none has stopped.
-pub fn run_steps(s: State, mem: &mut [u8], row: &mut [u8], budget: u64) -> State
+// At most budget steps, while none has stopped. The other's mask is named for the world's sake: a step
+// asks for the own words alone.
+pub fn run_steps(
+    s: State,
+    mem: &mut [u8],
+    row: &mut [u8],
+    own: u64,
+    other: u64,
+    budget: u64,
+) -> State
     requires { ⌜ length (now row) ≡ 512 ⌝ }
-    ensures { λ r. ⌜ world r (board (now (mem .exit)) (now (row .exit))) ≡ ran budget (world s (board (now (mem .entry)) (now (row .entry)))) ⌝ }
+    ensures { λ r. ⌜ masked (masks own other) r (board (now (mem .exit)) (now (row .exit))) ≡ ran budget (masked (masks own other) s (board (now (mem .entry)) (now (row .entry)))) ⌝ }
 {
     let mut t = s;
     let mut left = budget;
@@ -62,7 +70,7 @@ pub fn run_steps(s: State, mem: &mut [u8], row: &mut [u8], budget: u64) -> State
         }
         left -= 1;
         let act = act_at(t.pc, &t.x, mem);
-        let e = perform(act, mem, row);
+        let e = perform(own, act, mem, row);
         t = apply(t, e);
     }
     t

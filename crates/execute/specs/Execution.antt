@@ -44,9 +44,9 @@ actOf Ecall next pc x = Ends (nowhere S.Ecall)
 actOf Ebreak next pc x = Ends (nowhere S.Ebreak)
 actOf (MulDiv o rd rs1 rs2) next pc x = Sets rd (mulDivOf o (registerOf x rs1) (registerOf x rs2)) next
 
--- what comes of it, on the board b: main memory and the fuse row
-unfoldable pub performed : Act → Board → Done
-performed (Sets rd v next) b = outcome (Next rd v next) b
-performed (Loads o rd a next) b = outcome (loaded o rd a next b) b
-performed (Stores o v a next) b = stored o v a next b
-performed (Ends why) b = outcome (Halt why) b
+-- what comes of it, on the board b of main memory and fuse row, in a run whose own words are those of the mask `own`
+unfoldable pub performed : ℕ → Act → Board → Done
+performed own (Sets rd v next) b = outcome (Next rd v next) b
+performed own (Loads o rd a next) b = outcome (loaded own o rd a next b) b
+performed own (Stores o v a next) b = stored own o v a next b
+performed own (Ends why) b = outcome (Halt why) b

@@ -98,15 +98,15 @@ pub fn decide(i: Inst, next: u32, pc: u32, x: &[u32; 31]) -> Act
     }
 }
 
-// What comes of it.
-pub fn perform(act: Act, mem: &mut [u8], row: &mut [u8]) -> Effect
+// What comes of it. Of the row's words it may load and store to its own.
+pub fn perform(own: u64, act: Act, mem: &mut [u8], row: &mut [u8]) -> Effect
     requires { ⌜ length (now row) ≡ 512 ⌝ }
-    ensures { λ r. ⌜ outcome r (board (now (mem .exit)) (now (row .exit))) ≡ performed act (board (now (mem .entry)) (now (row .entry))) ⌝ }
+    ensures { λ r. ⌜ outcome r (board (now (mem .exit)) (now (row .exit))) ≡ performed own act (board (now (mem .entry)) (now (row .entry))) ⌝ }
 {
     match act {
         Act::Sets(rd, value, pc) => Effect::Next { rd, value, pc },
-        Act::Loads(op, rd, address, next) => load(op, rd, address, next, mem, row),
-        Act::Stores(op, v, address, next) => store(op, v, address, next, mem, row),
+        Act::Loads(op, rd, address, next) => load(own, op, rd, address, next, mem, row),
+        Act::Stores(op, v, address, next) => store(own, op, v, address, next, mem, row),
         Act::Ends(why) => Effect::Halt(why),
     }
 }

@@ -1,5 +1,5 @@
 -- The fuse row: 64 records of 8 bytes, no header. Bytes 0 to 3 hold the value, byte 4 the mark (0 blank, 1 burnt), bytes 5 to 7 zero.
-use Prim.Native.Nat.{ℕ, zero, suc, _+_, _*_}
+use Prim.Native.Nat.{ℕ, zero, suc, _+_, _-_, _*_, _/_, _%_, _^_}
 use mathlib.Core.Bool.{Bool, true, cond, not, _&&_, _||_}
 use mathlib.Core.Path.{_≡_}
 use mathlib.Core.List.{List}
@@ -53,6 +53,18 @@ burnt k v row = store 1 (8 * k + 4) 1 (store 4 (8 * k) v row)
 -- a store of v to word k: a burnt word takes none, whatever v is; to a blank word 0 gives no pulse, and the row stays as it was
 unfoldable pub wordStored : ℕ → ℕ → List ℕ → Outcome Stored (List ℕ)
 wordStored k v row = cond (eqb (markAt k row) 0) (outcome Done (cond (eqb (low 32 v) 0) row (burnt k v row))) (outcome AlreadyBurnt row)
+
+-- ---- masks of 64 bits
+
+-- bit k of a mask, 0 the lowest, says whether word k is its own
+abbrev pub owns : ℕ → ℕ → Bool
+owns mask k = eqb (mask / 2 ^ k % 2) 1
+
+-- the mask of all 64 words
+abbrev pub allWords : ℕ
+allWords = 2 ^ 64 - 1
+
+-- ---- counting
 
 -- how many of the first n words are burnt
 unfoldable pub burntWords : ℕ → List ℕ → ℕ

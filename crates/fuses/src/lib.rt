@@ -12,12 +12,20 @@ ghost use lib.Dec.{eqb};
 ghost use lib.ListN.{length};
 ghost use Rattle.answers.specs.Outcomes.{outcome};
 ghost use Rattle.answers.specs.declared.Check.the-variants.{Passed};
-ghost use Rattle.fuses.specs.Row.{valueAt, markAt, keepsRules, lowestBad, rowChecked, burnt, wordStored};
+ghost use Rattle.fuses.specs.Row.{valueAt, markAt, keepsRules, lowestBad, rowChecked, burnt, wordStored, owns};
 
 // What comes of a store to a word.
 pub enum Stored {
     Done,
     AlreadyBurnt,
+}
+
+// Whether word k is among those of a mask.
+pub fn is_own(mask: u64, k: usize) -> bool
+    requires { ⌜ k < 64 ⌝ }
+    ensures { λ r. ⌜ r ≡ owns mask k ⌝ }
+{
+    (mask >> k) % 2 == 1
 }
 
 // The value of word k.

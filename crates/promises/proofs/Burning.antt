@@ -30,11 +30,11 @@ use Rattle.promises.specs.Burning.{storesThere, burns, storesIn, turnsIn
 
 -- ---- one step
 
-row-comes : {b : Board} {a : Act} {d : Done} → Comes b a d → RowStep (b .row) (goesOn (d .answer) && storesThere a b) (d .lent .row)
+row-comes : {own : ℕ} {b : Board} {a : Act} {d : Done} → Comes own b a d → RowStep (b .row) (goesOn (d .answer) && storesThere a b) (d .lent .row)
 row-comes (sets rd v pc) = stays
 row-comes (loads o rd a pc v h) = stays
 row-comes (into-memory o v a pc i e h) = rw e stays
-row-comes (into-row o v a pc k e h z ne) = rw (e, ne-eqb (low 32 v) 0 ne) (burning k v h z ne)
+row-comes (into-row o v a pc k e h mine z ne) = rw (e, ne-eqb (low 32 v) 0 ne) (burning k v h z ne)
 row-comes (zero-into-row o v a pc k e z) = rw (e, eq-eqb (low 32 v) 0 z) stays
 row-comes (stops a why by) = stays
 
@@ -87,20 +87,20 @@ newly-burnt es f r = by-starts 0 es f r .words
 -- ---- a store to a word
 
 module _ {w : World} {k v : ℕ} (s : StoresTo w k v) where
-  done : stepDone w ≡ storedTo (Fuse k) (s .o) v (s .a) (s .next) (w .board)
+  done : stepDone w ≡ storedTo (w .masks .own) (Fuse k) (s .o) v (s .a) (s .next) (w .board)
   unfolding performed
   done = rw (s .asks, s .there)
 
 pub zero-is-no-pulse : ZeroIsNoPulse
 unfolding storedTo storedInRow wordStored stepped applied
 zero-is-no-pulse w k v s z m =
-    let d : stepDone w ≡ outcome (onTo (s .next)) (w .board) = done s ∙ rw (eq-eqb _ 0 m, eq-eqb _ 0 z) in
+    let d : stepDone w ≡ outcome (onTo (s .next)) (w .board) = done s ∙ rw (s .mine, eq-eqb _ 0 m, eq-eqb _ 0 z) in
     rw (s .goes, d) (refl, refl)
 
 pub burnt-stops : BurntStops
 unfolding storedTo storedInRow wordStored stepped applied
 burnt-stops w k v s m =
-    let d : stepDone w ≡ outcome (Halt (cause AlreadyBurnt (s .a))) (w .board) = done s ∙ rw m in
+    let d : stepDone w ≡ outcome (Halt (cause AlreadyBurnt (s .a))) (w .board) = done s ∙ rw (s .mine, m) in
     rw (s .goes, d) (refl, refl, refl)
 
 pub clearing-burns-nothing : ClearingBurnsNothing

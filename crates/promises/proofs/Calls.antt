@@ -26,8 +26,8 @@ use Rattle.octets.specs.Bytes.{load}
 use Rattle.state.specs.declared.State.{State}
 use Rattle.state.specs.States.{wellFormed, stateChecked}
 use Rattle.state.proofs.Laws.{malformed, form-passes, form-passed}
-use Rattle.boards.specs.Boards.{Board, boardChecked}
-use Rattle.engine.specs.Steps.{World, world, ran, retired}
+use Rattle.boards.specs.Boards.{Board, startChecked}
+use Rattle.engine.specs.Steps.{World, masked, ran, retired}
 use Rattle.machine.specs.declared.Ran.{Ran}
 use Rattle.machine.specs.Entries.{runGiven, noRun, ofRan}
 use Rattle.records.specs.Records.{recordOf, stateOf, recordChecked}
@@ -36,12 +36,12 @@ use Rattle.slots.specs.Slots.{slotThere, slotAt, slotSet, readChecked, ofWrite}
 use Rattle.slots.proofs.Slots.{there-fits, no-slot, slot-set-at, take-before, drop-after, one-slot-there, one-slot-at}
 use Rattle.resume.specs.declared.Resumed.{Resumed}
 use Rattle.resume.specs.declared.Resumed.the-variants as A
-use Rattle.resume.specs.Resuming.{Bench, bench, benchLeft, resumeChecked, resumeGiven, ofResumed, wordResumed}
+use Rattle.resume.specs.Resuming.{Bench, benchOn, benchLeft, resumeChecked, resumeGiven, ofResumed, wordResumed}
 use Rattle.c_slots.specs.Slots.{lentChecked}
-use Rattle.c_runs.specs.Runs.{resumeCall}
-use Rattle.promises.specs.Refusals.{NoSlot, RecordMalformed, LowestBroken, TellsLowest, boardRows, recordRows}
+use Rattle.run_calls.specs.Runs.{resumeCall}
+use Rattle.promises.specs.Refusals.{NoSlot, RecordMalformed, LowestBroken, TellsLowest, startRows, recordRows}
 use Rattle.promises.specs.Calls.{TellsIn, WordTold, Returns, CallsRefuse, WriteCallRefuses, lentWorld, RunCallIsRun}
-use Rattle.promises.proofs.Refusals.{board-rows, record-row, board-tells, quiet-read}
+use Rattle.promises.proofs.Refusals.{start-rows, record-row, resume-rows, start-tells, quiet-read}
 
 -- ---- the word's place
 
@@ -66,7 +66,7 @@ module _ (b k : ℕ) (h : Bench) (place word : ℕ) where
 
   told-by-resume : TellsIn (h .board) (resumeCall b k h place word .answer) word (resumeCall b k h place word .lent .0 .1)
       ((resumeCall b k h place word .lent .0 .0 ≡ place) × (resumeCall b k h place word .lent .1 ≡ h))
-  told-by-resume = resume-tells (resumeChecked k h) (board-tells (h .board) (readChecked k (h .slots)) (quiet-read k (h .slots)))
+  told-by-resume = resume-tells (resumeChecked k h) (start-tells (h .board) (h .masks) (readChecked k (h .slots)) (quiet-read k (h .slots)))
 
 pub word-told : WordTold
 word-told = (
@@ -98,8 +98,8 @@ module _ {A B C : Type 0} (read : A → Answer C) (refusal : Refusal → A) (rea
 one-read : (r : List ℕ) → length r ≡ 144 → readChecked 0 r ≡ recordChecked r
 one-read r l = rw (one-slot-there r l, one-slot-at r l)
 
-lent-rows : (h : Bench) → length (h .slots) ≡ 144 → Says (resumeChecked 0 h) (boardRows (h .board) (recordRows (h .slots)))
-lent-rows h l = board-rows (h .board) (readChecked 0 (h .slots)) (rw (one-read (h .slots) l) (record-row (h .slots)))
+lent-rows : (h : Bench) → length (h .slots) ≡ 144 → Says (resumeChecked 0 h) (startRows (h .board) (h .masks) (recordRows (h .slots)))
+lent-rows h l = start-rows (h .board) (h .masks) (readChecked 0 (h .slots)) (rw (one-read (h .slots) l) (record-row (h .slots)))
 
 pub calls-refuse : CallsRefuse
 calls-refuse = (
@@ -110,6 +110,10 @@ calls-refuse = (
   λ h word l. (
     returns ofResumed A.Refused (λ r. refl) (resumeChecked 0 h) (resumeGiven 1 0 h) h 0 refl (lent-rows h l),
     λ f. leaves ofResumed A.Refused (λ r. refl) (resumeChecked 0 h) (resumeGiven 1 0 h) h 0 refl f .1,
+  ),
+  λ b k h place word. (
+    returns ofResumed A.Refused (λ r. refl) (resumeChecked k h) (resumeGiven b k h) h place refl (resume-rows k h),
+    leaves ofResumed A.Refused (λ r. refl) (resumeChecked k h) (resumeGiven b k h) h place refl,
   ),
 )
 
@@ -172,15 +176,15 @@ module _ (b : ℕ) (h : Bench) (place word : ℕ) (l : length (h .slots) ≡ 144
 
   -- one check decides both
   both-run : (c : Check)
-      → ((s : State) (n : ℕ) → ofRan (entry c .answer) ≡ given (s, n) → call c ≡ outcome 0 ((n, word), bench (entry c .lent) (recordOf s)))
+      → ((s : State) (n : ℕ) → ofRan (entry c .answer) ≡ given (s, n) → call c ≡ outcome 0 ((n, word), benchOn h (entry c .lent) (recordOf s)))
       × ((n : ℕ) → ofRan (entry c .answer) ≡ refusedWith n → call c .answer ≡ n)
   unfolding decided
   both-run Passed =
       let w : World = lentWorld h in (
         λ s n e.
-            ap (λ r. outcome 0 ((retired b (world (stateOf r) (h .board)), word), benchLeft 0 (ran b (world (stateOf r) (h .board))) (h .slots))) (one-slot-at (h .slots) l)
-            ∙ ap (λ r. outcome 0 ((retired b w, word), bench (ran b w .board) r)) (one-set (recordOf (ran b w .st)) (h .slots) l)
-            ∙ ap (λ (p : State × ℕ). outcome 0 ((p .1, word), bench (ran b w .board) (recordOf (p .0)))) (same-value e),
+            ap (λ r. outcome 0 ((retired b (masked (h .masks) (stateOf r) (h .board)), word), benchLeft 0 (ran b (masked (h .masks) (stateOf r) (h .board))) h)) (one-slot-at (h .slots) l)
+            ∙ ap (λ r. outcome 0 ((retired b w, word), benchOn h (ran b w .board) r)) (one-set (recordOf (ran b w .st)) (h .slots) l)
+            ∙ ap (λ (p : State × ℕ). outcome 0 ((p .1, word), benchOn h (ran b w .board) (recordOf (p .0)))) (same-value e),
         λ n e. absurd (apart e),
       )
   both-run (Refused r) = (λ s n e. absurd (apart (sym e)), λ n e. same-number e)
@@ -188,4 +192,4 @@ module _ (b : ℕ) (h : Bench) (place word : ℕ) (l : length (h .slots) ≡ 144
 pub run-call-is-run : RunCallIsRun
 run-call-is-run b h place word l f =
     let p = record-passes (h .slots) f in
-    rw (one-read (h .slots) l ∙ p .0, p .1) (both-run b h place word l (boardChecked (h .board) Passed))
+    rw (one-read (h .slots) l ∙ p .0, p .1) (both-run b h place word l (startChecked (h .board) (h .masks) Passed))

@@ -8,7 +8,7 @@ use Prim.Native.Nat.{ℕ, _+_, _*_, _^_}
 use native.Mathlib.Omega.{arith}
 use lib.ListN.{take, drop}
 use lib.Dec.{eqb, lit<}
-use borrow.Author.Tests.{eqb-true, eqb-false, ne-eqb}
+use borrow.Author.Tests.{eqb-true, eqb-false}
 use Rattle.answers.specs.Answer.{given}
 use Rattle.answers.specs.Checks.{unless}
 use Rattle.answers.specs.Outcomes.{Outcome, outcome, decided}
@@ -24,10 +24,10 @@ use Rattle.octets.specs.Bytes.{load}
 use Rattle.state.specs.declared.State.{State}
 use Rattle.state.specs.States.{noState, wellFormed, stateChecked}
 use Rattle.state.proofs.Laws.{malformed, form-passed}
-use Rattle.boards.specs.Boards.{BoardFits, boardChecked}
-use Rattle.boards.proofs.Boards.{board-refused, board-passed, board-accepted, lendable-passes}
-use Rattle.engine.specs.Steps.{World, world, checked, paused, ran, retired}
-use Rattle.engine.proofs.Laws.{ran-add, retired-add}
+use Rattle.boards.specs.Boards.{BoardFits, startChecked}
+use Rattle.boards.proofs.Boards.{start-refused, start-passed, start-accepted, start-passes}
+use Rattle.engine.specs.Steps.{World, masked, onward, checked, paused, ran, retired}
+use Rattle.engine.proofs.Laws.{ran-onward, ran-add, retired-add}
 use Rattle.engine.proofs.Kept.{Runnable, runnable-passes, passes-runnable, runnable-ran}
 use Rattle.machine.specs.declared.Ran.{Ran}
 use Rattle.machine.proofs.Entries.{run-accepted}
@@ -38,8 +38,8 @@ use Rattle.slots.specs.Slots.{slotThere, slotAt, slotSet, writeChecked, writeEn
 use Rattle.slots.proofs.Slots.{there-fits, slot-length, slot-set-at, take-before, drop-after, slot-same, slot-bytes, ReadsWell, reads-well, same-record, SlotHolds, holds-set, read-held, write-passes, check-was, state-was, one-slot-there, one-slot-at}
 use Rattle.resume.specs.declared.Resumed.{Resumed}
 use Rattle.resume.specs.declared.Resumed.the-variants as A
-use Rattle.resume.specs.Resuming.{Bench, bench, slotWorld, benchLeft, resumeChecked, resumeGiven, resumeEntry, ofResumed}
-use Rattle.promises.specs.Cuts.{Piece, SlotsThere, leftBy, readBack, cutRun, answers, total, manual, Cut, sumAnswered, RetiredAddsUp, slotStart, slotRun, SlotRunIsRun, slotRuns, answered, slotAnswers, added, SlotRunsAddUp, SlotRunAnswers, SlotsStay, RecordOfState, StateOfRecord, NoStateOfRecord, OldRecord, OldRecordsLoad, SlotStaysFormed, WritesItsSlot}
+use Rattle.resume.specs.Resuming.{Bench, sharedBench, benchOn, slotWorld, benchLeft, resumeChecked, resumeGiven, resumeEntry, ofResumed}
+use Rattle.promises.specs.Cuts.{Piece, SlotsThere, leftBy, readBack, cutRun, answers, total, manual, Cut, sumAnswered, RetiredAddsUp, slotStart, slotRun, SlotRunIsRun, slotRuns, answered, slotAnswers, added, SlotRunsAddUp, SlotRunAnswers, SlotsStay, RecordOfState, StateOfRecord, NoStateOfRecord, OldRecordsLoad, SlotStaysFormed, WritesItsSlot}
 use Rattle.promises.specs.Refusals.{Malformed, RecordMalformed}
 use Rattle.promises.proofs.Refusals.{accepted-passes, slot-accepted-passes}
 use Rattle.promises.proofs.Steps.{no-budget, stays-stopped}
@@ -49,25 +49,27 @@ use Rattle.promises.proofs.Steps.{no-budget, stays-stopped}
 run-runs : (b : ℕ) {v w : World} → v ≡ w → Runnable w → runEntry b v ≡ runGiven b w
 run-runs b {v} {w} e g = ap (runEntry b) e ∙ run-accepted b w (runnable-passes w g)
 
+pub left-by : (b : ℕ) {v w : World} → v ≡ w → Runnable w → leftBy b v ≡ ran b w
+left-by b {v} {w} e g =
+    ap₂ (λ u q. onward u (q .answer .state) (q .lent)) e (run-runs b e g)
+    ∙ ran-onward b w
+
 -- a state that was written to a slot is read back from it
-reads-back : (p : Piece) (w : World) → Runnable w → slotThere (p .slot) (p .slots) ≡ true → readBack p w ≡ w
+pub reads-back : (p : Piece) (w : World) → Runnable w → slotThere (p .slot) (p .slots) ≡ true → readBack p w ≡ w
 reads-back p w g t =
     let s = w .st in
-    ap (λ o. world (readEntry (p .slot) (o .lent) .answer .state) (w .board)) (write-passes (p .slot) s (p .slots) t (g .0 .1))
-    ∙ ap (λ o. world (o .answer .state) (w .board)) (read-held (p .slot) s _ (holds-set (p .slot) s (p .slots) (g .0 .0 .x-length) t) (g .0 .0) (g .0 .1))
+    ap (λ o. onward w (readEntry (p .slot) (o .lent) .answer .state) (w .board)) (write-passes (p .slot) s (p .slots) t (g .0 .1))
+    ∙ ap (λ o. onward w (o .answer .state) (w .board)) (read-held (p .slot) s _ (holds-set (p .slot) s (p .slots) (g .0 .0 .x-length) t) (g .0 .0) (g .0 .1))
 
 -- ---- the pieces, one after the other
 
 ends : (b : ℕ) (ps : List Piece) {v w : World} → v ≡ w → Runnable w → SlotsThere ps → (cutRun b ps v ≡ ran (total b ps) w) × (answers b ps v ≡ manual b ps w)
 unfolding cutRun answers total manual SlotsThere
-ends b [] {v} {w} e g t =
-    let o = run-runs b e g in
-    (ap (λ q. world (q .answer .state) (q .lent)) o, ap (λ q. ofRan (q .answer) ∷ []) o)
+ends b [] {v} {w} e g t = (left-by b e g, ap (λ q. ofRan (q .answer) ∷ []) (run-runs b e g))
 ends b (p ∷ ps) {v} {w} e g t =
     let o = run-runs b e g in
     let g′ : Runnable (ran b w) = runnable-ran b w g in
-    let left : leftBy b v ≡ ran b w = ap (λ q. world (q .answer .state) (q .lent)) o in
-    let i = ends (p .budget) ps (ap (readBack p) left ∙ reads-back p (ran b w) g′ (t .0)) g′ (t .1) in
+    let i = ends (p .budget) ps (ap (readBack p) (left-by b e g) ∙ reads-back p (ran b w) g′ (t .0)) g′ (t .1) in
     (i .0 ∙ sym (ran-add b (total (p .budget) ps) w), λ j. ofRan (o j .answer) ∷ i .1 j)
 
 pub cut : Cut
@@ -85,18 +87,18 @@ retired-adds-up b ps w z a t = ap sumAnswered (cut b ps w z a t .1) ∙ manual-a
 
 -- a run from the slot that ended at v
 run-left : (b k n : ℕ) (h : Bench) (v : World) → slotThere k (h .slots) ≡ true → Runnable v → runEntry b (slotStart k h) ≡ outcome (ranTo (v .st) n) (v .board)
-    → slotRun b k h ≡ benchLeft k v (h .slots)
+    → slotRun b k h ≡ benchLeft k v h
 unfolding slotRun
 run-left b k n h v t g e =
-    ap (λ (o : Outcome Ran _). bench (o .lent) (writeEntry k (o .answer .state) (h .slots) .lent)) e
-    ∙ ap (λ (o : Outcome Check _). bench (v .board) (o .lent)) (write-passes k (v .st) (h .slots) t (g .0 .1))
+    ap (λ (o : Outcome Ran _). benchOn h (o .lent) (writeEntry k (o .answer .state) (h .slots) .lent)) e
+    ∙ ap (λ (o : Outcome Check _). benchOn h (v .board) (o .lent)) (write-passes k (v .st) (h .slots) t (g .0 .1))
 
 -- a refused one leaves everything: there is no state to write
 run-refused : (b k : ℕ) (h : Bench) (r : Refusal) → checked (slotStart k h) ≡ Refused r → slotRun b k h ≡ h
 unfolding slotRun decided
 run-refused b k h r e =
-    ap (λ c. bench (decided c (runGiven b (slotStart k h)) noRun (h .board) .lent) (writeEntry k (decided c (runGiven b (slotStart k h)) noRun (h .board) .answer .state) (h .slots) .lent)) e
-    ∙ ap (bench (h .board)) (go (slotThere k (h .slots)))
+    ap (λ c. benchOn h (decided c (runGiven b (slotStart k h)) noRun (h .board) .lent) (writeEntry k (decided c (runGiven b (slotStart k h)) noRun (h .board) .answer .state) (h .slots) .lent)) e
+    ∙ ap (benchOn h (h .board)) (go (slotThere k (h .slots)))
   where
     go : (t : Bool) → decided (unless t R.Slot (Refused R.StopNumber)) (outcome Passed (slotSet k (recordOf noState) (h .slots))) Refused (h .slots) .lent ≡ h .slots
     go true = refl
@@ -115,27 +117,28 @@ module _ (b k : ℕ) (h : Bench) where
   both-refused p q e d = ap (λ c. resumed c .lent) e ∙ sym (run-refused b k h q d)
 
   -- a slot that does not read leaves no state that could run
-  unread : (r : Refusal) → boardChecked (h .board) Passed ≡ Passed → readChecked k (h .slots) ≡ Refused r → Same
+  unread : (r : Refusal) → startChecked (h .board) (h .masks) Passed ≡ Passed → readChecked k (h .slots) ≡ Refused r → Same
   unfolding decided
   unread r l e =
-      both-refused r R.StopNumber (board-passed (h .board) _ l ∙ e)
-      (board-passed (h .board) _ l ∙ ap (λ c. stateChecked (decided c (outcome (readTo (slotWorld k h .st)) tt) noRead tt .answer .state)) e)
+      both-refused r R.StopNumber (start-passed (h .board) (h .masks) _ l ∙ e)
+      (start-passed (h .board) (h .masks) _ l ∙ ap (λ c. stateChecked (decided c (outcome (readTo (slotWorld k h .st)) tt) noRead tt .answer .state)) e)
 
   -- the state that was read fits, for bytes are bytes
-  read : BoardFits (h .board) → AllBelow (2 ^ 8) (h .slots) → boardChecked (h .board) Passed ≡ Passed → readChecked k (h .slots) ≡ Passed → Same
+  read : BoardFits (h .board) → AllBelow (2 ^ 8) (h .slots) → startChecked (h .board) (h .masks) Passed ≡ Passed → readChecked k (h .slots) ≡ Passed → Same
   unfolding decided
   read f sb l e =
       let w : World = slotWorld k h in
       let r : ReadsWell k (h .slots) = reads-well k (h .slots) e in
-      let a : slotStart k h ≡ w = ap (λ c. world (decided c (outcome (readTo (w .st)) tt) noRead tt .answer .state) (h .board)) e in
-      let g : Runnable w = ((bytes-fit (slotAt k (h .slots)) (slot-bytes k (h .slots) sb), r .formed), (f, board-accepted (h .board) Passed l .0)) in
-      ap (λ c. resumed c .lent) (board-passed (h .board) _ l ∙ e) ∙ sym (run-left b k (retired b w) h (ran b w) (r .there) (runnable-ran b w g) (run-runs b a g))
+      let a : slotStart k h ≡ w = ap (λ c. masked (h .masks) (decided c (outcome (readTo (w .st)) tt) noRead tt .answer .state) (h .board)) e in
+      let q = start-accepted (h .board) (h .masks) Passed l in
+      let g : Runnable w = ((bytes-fit (slotAt k (h .slots)) (slot-bytes k (h .slots) sb), r .formed), (f, q .0), q .1) in
+      ap (λ c. resumed c .lent) (start-passed (h .board) (h .masks) _ l ∙ e) ∙ sym (run-left b k (retired b w) h (ran b w) (r .there) (runnable-ran b w g) (run-runs b a g))
 
 pub slot-run-is-run : SlotRunIsRun
-slot-run-is-run b k h f sb = go (boardChecked (h .board) Passed) (readChecked k (h .slots)) refl refl
+slot-run-is-run b k h f sb = go (startChecked (h .board) (h .masks) Passed) (readChecked k (h .slots)) refl refl
   where
-    go : (c d : Check) → boardChecked (h .board) Passed ≡ c → readChecked k (h .slots) ≡ d → Same b k h
-    go (Refused r) d l e = both-refused b k h r r (board-refused (h .board) _ l) (board-refused (h .board) _ l)
+    go : (c d : Check) → startChecked (h .board) (h .masks) Passed ≡ c → readChecked k (h .slots) ≡ d → Same b k h
+    go (Refused r) d l e = both-refused b k h r r (start-refused (h .board) (h .masks) _ l) (start-refused (h .board) (h .masks) _ l)
     go Passed (Refused r) l e = unread b k h r l e
     go Passed Passed l e = read b k h f sb l e
 
@@ -146,14 +149,14 @@ slot-run-answers b k h a = ap (λ c. ofResumed (resumed b k h c .answer)) (slot-
 -- ---- slot runs, one after the other
 
 -- slot k holds s: a run of it leaves the manual's steps there
-slot-goes : (b k : ℕ) (h : Bench) (s : State) → SlotHolds k s (h .slots) → Runnable (world s (h .board))
-    → resumeEntry b k h ≡ outcome (A.Retired (retired b (world s (h .board)))) (benchLeft k (ran b (world s (h .board))) (h .slots))
+slot-goes : (b k : ℕ) (h : Bench) (s : State) → SlotHolds k s (h .slots) → Runnable (masked (h .masks) s (h .board))
+    → resumeEntry b k h ≡ outcome (A.Retired (retired b (masked (h .masks) s (h .board)))) (benchLeft k (ran b (masked (h .masks) s (h .board))) h)
 unfolding decided
 slot-goes b k h s p g =
     let e = sym (read-held k s (h .slots) p (g .0 .0) (g .0 .1)) in
-    let c : resumeChecked k h ≡ Passed = lendable-passes (h .board) _ (g .1 .1) ∙ check-was k (h .slots) e refl in
+    let c : resumeChecked k h ≡ Passed = start-passes (h .board) (h .masks) _ (g .1 .1) (g .2) ∙ check-was k (h .slots) e refl in
     ap (resumed b k h) c
-    ∙ ap (λ q. outcome (A.Retired (retired b (world q (h .board)))) (benchLeft k (ran b (world q (h .board))) (h .slots))) (sym (state-was k (h .slots) e refl))
+    ∙ ap (λ q. outcome (A.Retired (retired b (masked (h .masks) q (h .board)))) (benchLeft k (ran b (masked (h .masks) q (h .board))) h)) (sym (state-was k (h .slots) e refl))
 
 -- the bench h has the world v, in slot k and on its board, and n were answered where m should be
 abbrev Holds : ℕ → Bench → World → ℕ → ℕ → Type 0
@@ -162,26 +165,28 @@ Holds k h v n m = (ofReadBack (readEntry k (h .slots) .answer) ≡ given (v .st)
 moved : (k : ℕ) {p q : Bench} {v u : World} {a b c d : ℕ} → p ≡ q → v ≡ u → a ≡ b → d ≡ c → Holds k q u b c → Holds k p v a d
 moved k e f g h i = rw (e, f, g, h) i
 
-slot-ends : (k : ℕ) (bs : List ℕ) (h : Bench) (s : State) → SlotHolds k s (h .slots) → Runnable (world s (h .board))
-    → Holds k (slotRuns k bs h) (ran (added bs) (world s (h .board))) (slotAnswers k bs h) (retired (added bs) (world s (h .board)))
+slot-ends : (k : ℕ) (bs : List ℕ) (h : Bench) (s : State) → SlotHolds k s (h .slots) → Runnable (masked (h .masks) s (h .board))
+    → Holds k (slotRuns k bs h) (ran (added bs) (masked (h .masks) s (h .board))) (slotAnswers k bs h) (retired (added bs) (masked (h .masks) s (h .board)))
 unfolding slotRuns slotAnswers added ran retired
 slot-ends k [] h s p g = (ap (λ (o : Outcome _ _). ofReadBack (o .answer)) (read-held k s (h .slots) p (g .0 .0) (g .0 .1)), refl, refl)
 slot-ends k (b ∷ bs) h s p g =
-    let w : World = world s (h .board) in
+    let w : World = masked (h .masks) s (h .board) in
     let v : World = ran b w in
     let g′ : Runnable v = runnable-ran b w g in
     let e = slot-goes b k h s p g in
-    let left : Bench = benchLeft k v (h .slots) in
-    let i = slot-ends k bs left (v .st) (holds-set k (v .st) (h .slots) (g′ .0 .0 .x-length) (p .there)) g′ in
-    moved k (ap (λ o. slotRuns k bs (o .lent)) e) (ran-add b (added bs) w)
+    let left : Bench = benchLeft k v h in
+    let u : World = masked (h .masks) (v .st) (v .board) in
+    let same : u ≡ v = ran-onward b w in
+    let i = slot-ends k bs left (v .st) (holds-set k (v .st) (h .slots) (g′ .0 .0 .x-length) (p .there)) (subst Runnable (sym same) g′) in
+    moved k (ap (λ o. slotRuns k bs (o .lent)) e) (ran-add b (added bs) w ∙ ap (ran (added bs)) (sym same))
     (ap (λ o. answered (ofResumed (o .answer)) + slotAnswers k bs (o .lent)) e)
     (retired-add b (added bs) w)
-    (i .0, i .1, ap (λ n. retired b w + n) (i .2))
+    (i .0, i .1, ap (λ n. retired b w + n) (i .2 ∙ ap (retired (added bs)) same))
 
 pub slot-runs-add-up : SlotRunsAddUp
 slot-runs-add-up k bs w slots z a t =
     let g : Runnable w = passes-runnable w z (accepted-passes w a) in
-    rw (write-passes k (w .st) slots t (g .0 .1)) (slot-ends k bs (benchLeft k w slots) (w .st) (holds-set k (w .st) slots (z .state-fits .x-length) t) g)
+    rw (write-passes k (w .st) slots t (g .0 .1)) (slot-ends k bs (benchLeft k w (sharedBench (w .masks) (w .board) slots)) (w .st) (holds-set k (w .st) slots (z .state-fits .x-length) t) g)
 
 -- ---- a slot as it was
 
@@ -194,11 +199,11 @@ unfolding decided
 slots-stay b k h sb a q =
     let c = slot-accepted-passes k h a in
     let s = rests b (slotWorld k h) q in
-    let r : ReadsWell k (h .slots) = reads-well k (h .slots) (board-accepted (h .board) _ c .1) in
+    let r : ReadsWell k (h .slots) = reads-well k (h .slots) (start-accepted (h .board) (h .masks) _ c .2) in
     ap (resumed b k h) c
-    ∙ ap₂ (λ n v. outcome (A.Retired n) (benchLeft k v (h .slots))) (s .1) (s .0)
-    ∙ ap (λ bytes. outcome (A.Retired 0) (bench (h .board) (slotSet k bytes (h .slots)))) (same-record k (h .slots) sb r)
-    ∙ ap (λ slots. outcome (A.Retired 0) (bench (h .board) slots)) (slot-same k (h .slots))
+    ∙ ap₂ (λ n v. outcome (A.Retired n) (benchLeft k v h)) (s .1) (s .0)
+    ∙ ap (λ bytes. outcome (A.Retired 0) (benchOn h (h .board) (slotSet k bytes (h .slots)))) (same-record k (h .slots) sb r)
+    ∙ ap (λ slots. outcome (A.Retired 0) (benchOn h (h .board) slots)) (slot-same k (h .slots))
 
 -- ---- one slot
 
@@ -236,7 +241,7 @@ pub old-records-load : OldRecordsLoad
 unfolding decided
 old-records-load k slots t old =
     let r : List ℕ = slotAt k slots in
-    let e = old-record r (slot-length k slots t) (old .pc-even) (old .stop-known) (old .rest-zero) in
+    let e = old-record r (slot-length k slots t) (old .pc-even) (omega (arith, old .stop-known)) (old .rest-zero) in
     let passes : readChecked k slots ≡ Passed = rw (t, e .0) in
     (λ m. sound-not-malformed r (e .0) m, ap (λ c. ofReadBack (decided c (outcome (readTo (stateOf r)) tt) noRead tt .answer)) passes ∙ ap given (e .1))
 
@@ -244,10 +249,10 @@ pub slot-stays-formed : SlotStaysFormed
 unfolding decided
 slot-stays-formed b k h f sb a m =
     let c = slot-accepted-passes k h a in
-    let l = board-accepted (h .board) _ c in
-    let r : ReadsWell k (h .slots) = reads-well k (h .slots) (l .1) in
+    let l = start-accepted (h .board) (h .masks) _ c in
+    let r : ReadsWell k (h .slots) = reads-well k (h .slots) (l .2) in
     let w : World = slotWorld k h in
-    let g : Runnable w = ((bytes-fit (slotAt k (h .slots)) (slot-bytes k (h .slots) sb), r .formed), (f, l .0)) in
+    let g : Runnable w = ((bytes-fit (slotAt k (h .slots)) (slot-bytes k (h .slots) sb), r .formed), (f, l .0), l .1) in
     let v : Runnable (ran b w) = runnable-ran b w g in
     let s : State = ran b w .st in
     let held : slotAt k (resumeEntry b k h .lent .slots) ≡ recordOf s =

@@ -22,6 +22,7 @@ use Rattle.answers.specs.declared.Refusal.{Refusal}
 use Rattle.answers.specs.declared.Refusal.the-variants as R
 use Rattle.answers.specs.declared.Check.{Check}
 use Rattle.answers.specs.declared.Check.the-variants.{Passed, Refused}
+use Rattle.word.specs.Bits.{flag}
 use Rattle.word.proofs.Bools.{and-fails}
 use Rattle.octets.specs.Bytes.{load}
 use Rattle.fuses.specs.Row.{valueAt, markAt, restAt, keepsRules, allKeep, lowestBad}
@@ -29,8 +30,9 @@ use Rattle.fuses.proofs.Rows.{record-breaks, lowest-breaks, all-below, all-keep
 use Rattle.state.specs.declared.State.{State}
 use Rattle.state.specs.States.{addressAllowed, formChecked, stateChecked}
 use Rattle.state.proofs.Laws.{odd-pc, no-stop, stray-address, form-passes, form-passed, formed-before}
-use Rattle.boards.specs.Boards.{Board, boardChecked, longestMemory}
-use Rattle.boards.proofs.Boards.{board-accepted, lendable-passes}
+use Rattle.boards.specs.Boards.{Board, disjoint, startChecked, longestMemory, Masks}
+use Rattle.boards.proofs.Boards.{start-accepted, start-passes}
+use Rattle.boards.proofs.Sharing.{shares}
 use Rattle.engine.specs.Steps.{World, checked}
 use Rattle.machine.specs.declared.Stepped.{Stepped}
 use Rattle.machine.specs.declared.Ran.{Ran}
@@ -40,17 +42,18 @@ use Rattle.slots.specs.Slots.{slotThere, slotAt, writeChecked, ofWrite, readChe
 use Rattle.slots.proofs.Slots.{slot-is, no-slot}
 use Rattle.resume.specs.declared.Resumed.the-variants as A
 use Rattle.resume.specs.Resuming.{Bench, resumeChecked, ofResumed, wordResumed}
-use Rattle.promises.specs.Refusals.{OddPc, NoStop, boardRows, stateRows, recordRows, machineRows, writeRows, readRows, resumeRows, StepRefuses, RunRefuses, WriteRefuses, ReadRefuses, ResumeRefuses, StepKeeps, RunKeeps, WriteKeeps, ResumeKeeps, TellsLowest, LowestWord, OnlyThreeTells, NoOtherFact, RowRecordBefore, RulesAsBefore, BoardBefore, StateBefore, SlotBefore, RecordBefore, AcceptedAsBefore}
+use Rattle.promises.specs.Refusals.{OddPc, NoStop, Shared, startRows, stateRows, recordRows, machineRows, writeRows, readRows, resumeRows, StepRefuses, RunRefuses, WriteRefuses, ReadRefuses, ResumeRefuses, StepKeeps, RunKeeps, WriteKeeps, ResumeKeeps, TellsLowest, LowestWord, OnlyThreeTells, NoOtherFact, RowRecordBefore, RulesAsBefore, BoardBefore, StateBefore, SlotBefore, RecordBefore, AcceptedAsBefore}
 use Rattle.promises.specs.Steps.{Accepted}
 use Rattle.promises.specs.Cuts.{SlotAccepted}
 
 -- ---- the chains of tests, row by row
 
-pub board-rows : (b : Board) (rest : Check) {later : ℕ → Type 0} → Says rest later → Says (boardChecked b rest) (boardRows b later)
-board-rows b rest q =
+pub start-rows : (b : Board) (m : Masks) (rest : Check) {later : ℕ → Type 0} → Says rest later → Says (startChecked b m rest) (startRows b m later)
+start-rows b m rest q =
     then-row (leb (length (b .mem)) longestMemory) R.MemoryTooLong _ (leb-false _ _, lt-leb _ _)
     (then-row (eqb (length (b .row)) 512) R.RowLength _ (eqb-false _ _, ne-eqb _ _)
-    (then-row (allKeep 64 (b .row)) (R.RowRecord (lowestBad 64 (b .row))) rest (record-breaks (b .row)) q))
+    (then-row (allKeep 64 (b .row)) (R.RowRecord (lowestBad 64 (b .row))) _ (record-breaks (b .row))
+    (then-row (disjoint m) R.MasksShare rest (shares (m .own) (m .other)) q)))
 
 -- a state, of a record or of none
 form-rows : (zeros : Bool) (s : State) {End : Type 0} → ((zeros && addressAllowed s) ≡ false) ↔ End
@@ -66,7 +69,7 @@ pub record-row : (r : List ℕ) → Says (recordChecked r) (recordRows r)
 record-row r = form-rows (eqb (load 3 137 r) 0) (stateOf r) (and-fails (eqb (load 3 137 r) 0) (addressAllowed (stateOf r)) (eqb-false _ _, ne-eqb _ _) (stray-address (stateOf r)))
 
 machine-rows : (w : World) → Says (checked w) (machineRows w)
-machine-rows w = board-rows (w .board) (stateChecked (w .st)) (state-row (w .st))
+machine-rows w = start-rows (w .board) (w .masks) (stateChecked (w .st)) (state-row (w .st))
 
 write-rows : (k : ℕ) (s : State) (slots : List ℕ) → Says (writeChecked k s slots) (writeRows k s slots)
 write-rows k s slots = then-row (slotThere k slots) R.Slot (stateChecked s) (no-slot k slots) (state-row s)
@@ -74,8 +77,8 @@ write-rows k s slots = then-row (slotThere k slots) R.Slot (stateChecked s) (no-
 read-rows : (k : ℕ) (slots : List ℕ) → Says (readChecked k slots) (readRows k slots)
 read-rows k slots = then-row (slotThere k slots) R.Slot _ (no-slot k slots) (record-row (slotAt k slots))
 
-resume-rows : (k : ℕ) (h : Bench) → Says (resumeChecked k h) (resumeRows k h)
-resume-rows k h = board-rows (h .board) (readChecked k (h .slots)) (read-rows k (h .slots))
+pub resume-rows : (k : ℕ) (h : Bench) → Says (resumeChecked k h) (resumeRows k h)
+resume-rows k h = start-rows (h .board) (h .masks) (readChecked k (h .slots)) (read-rows k (h .slots))
 
 -- ---- where no row holds every test passes
 
@@ -140,9 +143,12 @@ quiet-read k slots =
     quiet-row (slotThere k slots) R.Slot _ (λ e. omega arith) refl (quiet-form (eqb (load 3 137 (slotAt k slots)) 0) (stateOf (slotAt k slots)))
 
 -- a board is refused with 3 for its lowest word
-pub board-tells : (b : Board) (rest : Check) → Quiet rest → (n : ℕ) → RefusedBy (boardChecked b rest) n → TellsLowest b n (wordTold (boardChecked b rest))
-board-tells b rest quiet n = go (leb (length (b .mem)) longestMemory) (eqb (length (b .row)) 512) (allKeep 64 (b .row)) refl
+pub start-tells : (b : Board) (m : Masks) (rest : Check) → Quiet rest → (n : ℕ) → RefusedBy (startChecked b m rest) n → TellsLowest b n (wordTold (startChecked b m rest))
+start-tells b m later quiet n = go (leb (length (b .mem)) longestMemory) (eqb (length (b .row)) 512) (allKeep 64 (b .row)) refl
   where
+    rest : Check
+    rest = unless (disjoint m) R.MasksShare later
+
     other : (c : Check) → (n ≡ 3 → ⊥) × (wordTold c ≡ none) → TellsLowest b n (wordTold c)
     other c q = (λ t. absurd (q .0 t), λ t. q .1)
 
@@ -153,19 +159,19 @@ board-tells b rest quiet n = go (leb (length (b .mem)) longestMemory) (eqb (leng
     go true true false a q =
         let s = lowest-breaks 64 (b .row) a in
         (λ t. (lowestBad 64 (b .row), refl, (s .within, s .breaks, λ j h. all-below (lowestBad 64 (b .row)) j (b .row) (s .below) h)), λ f. absurd (f q))
-    go true true true a q = other rest (quiet n q)
+    go true true true a q = other rest (quiet-row (disjoint m) R.MasksShare later (λ e. omega arith) refl quiet n q)
 
 pub lowest-word : LowestWord
 lowest-word = (
   λ w n e.
       let q = tells-as ofStepped noStep (λ r. refl) (λ (r : Stepped). wordTold (r .check)) (λ r. refl) (checked w) _ _ n refl e in
-      subst (TellsLowest (w .board) n) (sym (q .1)) (board-tells (w .board) _ (quiet-form true (w .st)) n (q .0)),
+      subst (TellsLowest (w .board) n) (sym (q .1)) (start-tells (w .board) (w .masks) _ (quiet-form true (w .st)) n (q .0)),
   λ b w n e.
       let q = tells-as ofRan noRun (λ r. refl) (λ (r : Ran). wordTold (r .check)) (λ r. refl) (checked w) _ _ n refl e in
-      subst (TellsLowest (w .board) n) (sym (q .1)) (board-tells (w .board) _ (quiet-form true (w .st)) n (q .0)),
+      subst (TellsLowest (w .board) n) (sym (q .1)) (start-tells (w .board) (w .masks) _ (quiet-form true (w .st)) n (q .0)),
   λ b k h n e.
       let q = tells-as ofResumed A.Refused (λ r. refl) wordResumed (λ r. refl) (resumeChecked k h) _ _ n refl e in
-      subst (TellsLowest (h .board) n) (sym (q .1)) (board-tells (h .board) _ (quiet-read k (h .slots)) n (q .0)),
+      subst (TellsLowest (h .board) n) (sym (q .1)) (start-tells (h .board) (h .masks) _ (quiet-read k (h .slots)) n (q .0)),
 )
 
 pub only-three-tells : OnlyThreeTells
@@ -205,10 +211,23 @@ rules-as-before k row = (there, back)
     back : RowRecordBefore k row → keepsRules k row ≡ true
     back h = rw (h .0) (⊎-elim (λ t. rw (t .0, ne-eqb (valueAt k row) 0 (t .1))) (λ t. rw (t .0, t .1)) (h .1))
 
-board-before : (b : Board) (rest : Check) {After : Type 0} → (rest ≡ Passed) ↔ After → (boardChecked b rest ≡ Passed) ↔ (BoardBefore b × After)
-board-before b rest q = (
-  λ e. let l = board-accepted b rest e in ((l .0 .short, l .0 .row .0, λ k h. rules-as-before k (b .row) .0 (all-below 64 k (b .row) (l .0 .row .1) h)), q .0 (l .1)),
-  λ h. lendable-passes b rest (record { short = h .0 .0; row = (h .0 .1, all-keep 64 (b .row) (λ k l. rules-as-before k (b .row) .1 (h .0 .2 k l))) }) ∙ q .1 (h .1),
+-- masks that share no bit
+apart-masks : (m : Masks) → (disjoint m ≡ true) ↔ (Shared m → ⊥)
+apart-masks m = (λ e s. let f = shares (m .own) (m .other) .1 s in omega (arith, ap flag (sym e ∙ f)), λ f. go (disjoint m) refl f)
+  where
+    go : (d : Bool) → disjoint m ≡ d → (Shared m → ⊥) → d ≡ true
+    go true e f = refl
+    go false e f = absurd (f (shares (m .own) (m .other) .0 e))
+
+start-before : (b : Board) (m : Masks) (rest : Check) {After : Type 0} → (rest ≡ Passed) ↔ After
+    → (startChecked b m rest ≡ Passed) ↔ (BoardBefore b × (Shared m → ⊥) × After)
+start-before b m rest q = (
+  λ e.
+      let l = start-accepted b m rest e in
+      ((l .0 .short, l .0 .row .0, λ k h. rules-as-before k (b .row) .0 (all-below 64 k (b .row) (l .0 .row .1) h)), apart-masks m .0 (l .1), q .0 (l .2)),
+  λ h.
+      start-passes b m rest (record { short = h .0 .0; row = (h .0 .1, all-keep 64 (b .row) (λ k l. rules-as-before k (b .row) .1 (h .0 .2 k l))) }) (apart-masks m .1 (h .1))
+      ∙ q .1 (h .2),
 )
 
 state-before : (s : State) → (stateChecked s ≡ Passed) ↔ StateBefore s
@@ -232,11 +251,11 @@ read-before k slots = slot-before k slots _ (record-before (slotAt k slots))
 
 pub accepted-as-before : AcceptedAsBefore
 accepted-as-before = (
-  λ w. iff-then (accepts ofStepped noStep (λ r. refl) (checked w) _ _ refl) (board-before (w .board) _ (state-before (w .st))),
-  λ b w. iff-then (accepts ofRan noRun (λ r. refl) (checked w) _ _ refl) (board-before (w .board) _ (state-before (w .st))),
+  λ w. iff-then (accepts ofStepped noStep (λ r. refl) (checked w) _ _ refl) (start-before (w .board) (w .masks) _ (state-before (w .st))),
+  λ b w. iff-then (accepts ofRan noRun (λ r. refl) (checked w) _ _ refl) (start-before (w .board) (w .masks) _ (state-before (w .st))),
   λ k s slots. iff-then (accepts ofWrite Refused (λ r. refl) (writeChecked k s slots) _ _ refl) (slot-before k slots _ (state-before s)),
   λ k slots. iff-then (accepts ofReadBack noRead (λ r. refl) (readChecked k slots) _ _ refl) (read-before k slots),
-  λ b k h. iff-then (accepts ofResumed A.Refused (λ r. refl) (resumeChecked k h) _ _ refl) (board-before (h .board) _ (read-before k (h .slots))),
+  λ b k h. iff-then (accepts ofResumed A.Refused (λ r. refl) (resumeChecked k h) _ _ refl) (start-before (h .board) (h .masks) _ (read-before k (h .slots))),
 )
 
 -- ---- no other fact

@@ -1,8 +1,8 @@
 -- An accepted entry passes its tests, and so is the manual's step or run; the rules of a step and of a run are the engine's laws.
 -- Assumes nothing.
 use mathlib.Core.Path.{_≡_, refl, sym, ap, subst, _∙_}
-use mathlib.Core.Bool.{Bool, true, false}
-use mathlib.Core.Logic.{inl, inr, ⊎-elim}
+use mathlib.Core.Bool.{true}
+use mathlib.Core.Logic.{inl, inr}
 use Prim.Native.Nat.{ℕ}
 use native.Mathlib.Omega.{arith}
 use borrow.Author.Tests.{eqb-false}
@@ -10,7 +10,6 @@ use Rattle.answers.specs.Outcomes.{decided}
 use Rattle.answers.specs.Stops.{stopNumber, cause, nowhere}
 use Rattle.answers.specs.declared.Cause.{Cause}
 use Rattle.answers.specs.declared.Stop.the-variants as S
-use Rattle.state.specs.declared.State.{State}
 use Rattle.state.specs.States.{state, wellFormed}
 use Rattle.state.proofs.Laws.{malformed}
 use Rattle.execute.specs.declared.Act.{Act}
@@ -18,12 +17,12 @@ use Rattle.execute.specs.declared.Act.the-variants.{Sets, Loads, Stores, Ends}
 use Rattle.execute.specs.Execution.{actOf}
 use Rattle.execute.proofs.Acts.{StopsBy, EndsBare, ends-bare}
 use Rattle.fetch.proofs.Laws.{FailsBy, fetch-fails}
-use Rattle.engine.specs.Steps.{World, world, asked, ran, retired}
+use Rattle.engine.specs.Steps.{World, onward, asked, ran, retired}
 use Rattle.engine.proofs.Walk.{by-asked}
 use Rattle.engine.proofs.Kept.{passes-runnable, runnable-ran}
 use Rattle.engine.proofs.Laws.{step-stopped, ran-stopped, retired-stopped, counts-up, stops-with, paused-exactly}
 use Rattle.machine.proofs.Entries.{one-step, run-accepted}
-use Rattle.promises.specs.Steps.{Accepted, StepIsManual, RunIsManual, accessed, addressFor, StopsCleanly, StaysFormed, StepIsRun, Counts, NoBudget, StaysStopped, PausedAtBudget}
+use Rattle.promises.specs.Steps.{StepIsManual, RunIsManual, addressFor, StopsCleanly, StaysFormed, StepIsRun, Counts, NoBudget, StaysStopped, PausedAtBudget}
 use Rattle.word.specs.Bits.{flag}
 use Rattle.machine.specs.Entries.{runEntry}
 use Rattle.promises.specs.Refusals.{Malformed}
@@ -46,8 +45,13 @@ module _ (w : World) where
 
   bare-located : (act : Act) → EndsBare act → Located act
   bare-located (Sets rd v next) b why by = absurd by
-  bare-located (Loads o rd a next) b why by = ⊎-elim (λ e. rw e) (λ e. rw e) by
-  bare-located (Stores o v a next) b why by = ⊎-elim (λ e. rw e) (λ r. ⊎-elim (λ e. rw e) (λ e. rw e) r) by
+  bare-located (Loads o rd a next) b why (inl e) = rw e
+  bare-located (Loads o rd a next) b why (inr (inl e)) = rw e
+  bare-located (Loads o rd a next) b why (inr (inr e)) = rw e
+  bare-located (Stores o v a next) b why (inl e) = rw e
+  bare-located (Stores o v a next) b why (inr (inl e)) = rw e
+  bare-located (Stores o v a next) b why (inr (inr (inl e))) = rw e
+  bare-located (Stores o v a next) b why (inr (inr (inr e))) = rw e
   bare-located (Ends c) (inl e) why by = let h : why ≡ nowhere S.Ecall = by ∙ e in rw h
   bare-located (Ends c) (inr e) why by = let h : why ≡ nowhere S.Ebreak = by ∙ e in rw h
 
@@ -65,7 +69,7 @@ pub stops-cleanly : StopsCleanly
 stops-cleanly w p e =
     let s = stops-with w p e in
     let why : Cause = s .0 in
-    (why .stop, s .2 ∙ ap (λ a. world (state (w .st .pc) (w .st .x) (w .st .count) (stopNumber (why .stop)) a) (w .board)) (located w why (s .1)))
+    (why .stop, s .2 ∙ ap (λ a. onward w (state (w .st .pc) (w .st .x) (w .st .count) (stopNumber (why .stop)) a) (w .board)) (located w why (s .1)))
 
 pub stays-formed : StaysFormed
 stays-formed b w z a = (rw (one-step w .1) (formed 1), formed b)

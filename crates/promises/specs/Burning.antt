@@ -10,15 +10,15 @@ use Rattle.answers.specs.declared.Check.the-variants.{Passed, Refused}
 use Rattle.place.specs.declared.Place.{Place}
 use Rattle.place.specs.declared.Place.the-variants.{Memory, Fuse, Misaligned, Outside}
 use Rattle.word.specs.Bits.{flag, low}
-use Rattle.fuses.specs.Row.{valueAt, markAt, Row, rowChecked, burntWords}
+use Rattle.fuses.specs.Row.{valueAt, markAt, Row, rowChecked, burntWords, owns}
 use Rattle.isa.specs.declared.StoreOp.{StoreOp}
 use Rattle.state.specs.declared.State.{State}
 use Rattle.state.specs.States.{advanced}
-use Rattle.boards.specs.Boards.{Board, board}
+use Rattle.boards.specs.Boards.{Board, board, Masks}
 use Rattle.access.specs.Accesses.{storePlace}
 use Rattle.execute.specs.declared.Act.{Act}
 use Rattle.execute.specs.declared.Act.the-variants.{Sets, Loads, Stores, Ends}
-use Rattle.engine.specs.Steps.{World, world, checked, asked, paused, completes, stepped, ran}
+use Rattle.engine.specs.Steps.{World, masked, onward, checked, asked, paused, completes, stepped, ran}
 use Rattle.machine.specs.Entries.{runEntry}
 
 -- ---- completed stores of values other than zero into the row, counted on the steps
@@ -56,14 +56,15 @@ turnsIn k (suc n) w = flag (turns k w) + turnsIn k n (stepped w)
 
 -- ---- what happens to one row
 
--- a run from any state and with any memory; a new start is one from the fresh state, a piece of a cut run one from the state read back
+-- a run from any state, with any memory and any masks; a new start is one from the fresh state, a piece of a cut run one from the state read back
 pub record Start : Type 0 where
   pub st : State
   pub mem : List ℕ
+  pub masks : Masks
   pub budget : ℕ
 
 abbrev pub begun : Start → List ℕ → World
-begun e f = world (e .st) (board (e .mem) f)
+begun e f = masked (e .masks) (e .st) (board (e .mem) f)
 
 -- the row after them
 unfoldable pub rowAfter : List Start → List ℕ → List ℕ
@@ -113,7 +114,7 @@ BurntNotZero = (es : List Start) (f : List ℕ) (k : ℕ) → Row f → k < 64 �
 abbrev pub NewlyBurnt : Type 0
 NewlyBurnt = (es : List Start) (f : List ℕ) → Row f → burntWords 64 (rowAfter es f) ≡ burntWords 64 f + storesOver es f
 
--- ---- a store to word k, which the next step of w asks for
+-- ---- a store to word k, one of its own, which the next step of w asks for
 
 pub record StoresTo (w : World) (k v : ℕ) : Type 0 where
   pub o : StoreOp
@@ -122,12 +123,13 @@ pub record StoresTo (w : World) (k v : ℕ) : Type 0 where
   pub goes : paused w ≡ true
   pub asks : asked w ≡ Stores o v a next
   pub there : storePlace o a (w .board) ≡ Fuse k
+  pub mine : owns (w .masks .own) k ≡ true
 
 -- of 0 to a blank word: it completes, counts as a step and goes on to the next instruction, and leaves all else as it was, memory and row byte for byte
 abbrev pub ZeroIsNoPulse : Type 0
 ZeroIsNoPulse =
     (w : World) (k v : ℕ) (s : StoresTo w k v) → low 32 v ≡ 0 → markAt k (w .board .row) ≡ 0
-    → (completes w ≡ true) × (stepped w ≡ world (advanced (s .next) (w .st)) (w .board))
+    → (completes w ≡ true) × (stepped w ≡ onward w (advanced (s .next) (w .st)) (w .board))
 
 -- of any value, also 0, to a burnt word: it stops with 9, and memory and row are as they were
 abbrev pub BurntStops : Type 0

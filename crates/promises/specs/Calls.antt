@@ -11,14 +11,14 @@ use Rattle.answers.specs.Order.{refusal}
 use Rattle.word.specs.Bounds.{AllBelow}
 use Rattle.state.specs.declared.State.{State}
 use Rattle.boards.specs.Boards.{Board}
-use Rattle.engine.specs.Steps.{World, world}
+use Rattle.engine.specs.Steps.{World, masked}
 use Rattle.machine.specs.Entries.{runEntry, ofRan}
 use Rattle.records.specs.Records.{recordOf, stateOf}
 use Rattle.slots.specs.Slots.{slotAt}
-use Rattle.resume.specs.Resuming.{Bench, bench}
+use Rattle.resume.specs.Resuming.{Bench, benchOn}
 use Rattle.c_slots.specs.Slots.{writeCall}
-use Rattle.c_runs.specs.Runs.{resumeCall, runCall, stepCall}
-use Rattle.promises.specs.Refusals.{NoSlot, RecordMalformed, LowestBroken, boardRows, recordRows}
+use Rattle.run_calls.specs.Runs.{resumeCall, runCall, stepCall}
+use Rattle.promises.specs.Refusals.{NoSlot, RecordMalformed, LowestBroken, startRows, recordRows, resumeRows}
 
 -- ---- the word's place
 
@@ -42,14 +42,17 @@ WordTold =
 abbrev pub Returns : ℕ → (ℕ → Type 0) → Type 0
 Returns returned rows = (n : ℕ) → ((returned ≡ n) × (n ≡ 0 → ⊥)) ↔ rows n
 
--- run and step: 1, 2, 3, 5, 14 and 15, never 4; refused, they leave everything as it was, but for the word's place
+-- run and step: 1, 2, 3, 16, 5, 14 and 15, never 4; a run of a slot: 1, 2, 3, 16, 4, 5, 14 and 15; refused, they leave everything as it was, but for the word's place
 abbrev pub CallsRefuse : Type 0
 CallsRefuse =
     ((b : ℕ) (h : Bench) (retired word : ℕ) → length (h .slots) ≡ 144
-    → Returns (runCall b h retired word .answer) (boardRows (h .board) (recordRows (h .slots)))
+    → Returns (runCall b h retired word .answer) (startRows (h .board) (h .masks) (recordRows (h .slots)))
     × ((runCall b h retired word .answer ≡ 0 → ⊥) → (runCall b h retired word .lent .0 .0 ≡ retired) × (runCall b h retired word .lent .1 ≡ h)))
     × ((h : Bench) (word : ℕ) → length (h .slots) ≡ 144
-    → Returns (stepCall h word .answer) (boardRows (h .board) (recordRows (h .slots))) × ((stepCall h word .answer ≡ 0 → ⊥) → stepCall h word .lent .1 ≡ h))
+    → Returns (stepCall h word .answer) (startRows (h .board) (h .masks) (recordRows (h .slots))) × ((stepCall h word .answer ≡ 0 → ⊥) → stepCall h word .lent .1 ≡ h))
+    × ((b k : ℕ) (h : Bench) (retired word : ℕ)
+    → Returns (resumeCall b k h retired word .answer) (resumeRows k h)
+    × ((resumeCall b k h retired word .answer ≡ 0 → ⊥) → (resumeCall b k h retired word .lent .0 .0 ≡ retired) × (resumeCall b k h retired word .lent .1 ≡ h)))
 
 -- the slot first, then the record; refused, the slots are left, and else slot k has the record's bytes and the others are as they were
 abbrev pub WriteCallRefuses : Type 0
@@ -66,12 +69,12 @@ WriteCallRefuses =
 
 -- the state that a lent record says, on the board
 abbrev pub lentWorld : Bench → World
-lentWorld h = world (stateOf (h .slots)) (h .board)
+lentWorld h = masked (h .masks) (stateOf (h .slots)) (h .board)
 
 -- of a record that is not malformed, the call is the entry's run of its state: the number retired in its place, the board, and the last state's record; or the same refusal
 abbrev pub RunCallIsRun : Type 0
 RunCallIsRun =
     (b : ℕ) (h : Bench) (retired word : ℕ) → length (h .slots) ≡ 144 → (RecordMalformed (h .slots) → ⊥)
     → ((s : State) (n : ℕ) → ofRan (runEntry b (lentWorld h) .answer) ≡ given (s, n)
-    → runCall b h retired word ≡ outcome 0 ((n, word), bench (runEntry b (lentWorld h) .lent) (recordOf s)))
+    → runCall b h retired word ≡ outcome 0 ((n, word), benchOn h (runEntry b (lentWorld h) .lent) (recordOf s)))
     × ((n : ℕ) → ofRan (runEntry b (lentWorld h) .answer) ≡ refusedWith n → runCall b h retired word .answer ≡ n)

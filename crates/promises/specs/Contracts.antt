@@ -6,9 +6,9 @@ use Prim.Native.Nat.{ℕ}
 use Rattle.answers.specs.Outcomes.{outcome}
 use Rattle.state.specs.declared.State.{State}
 use Rattle.state.specs.States.{state}
-use Rattle.boards.specs.Boards.{Board, board}
-use Rattle.engine.specs.Steps.{world}
-use Rattle.resume.specs.Resuming.{bench}
+use Rattle.boards.specs.Boards.{Board, board, Masks}
+use Rattle.engine.specs.Steps.{masked}
+use Rattle.resume.specs.Resuming.{sharedBench}
 
 -- two bundles that a contract allows for one input are equal
 abbrev pub OneOutcome : Type 1
@@ -20,6 +20,6 @@ EqualParts =
     ((A B : Type 0) (a c : A) (b d : B) → outcome a b ≡ outcome c d → (a ≡ c) × (b ≡ d))
     × ((A B : Type 0) (a c : A) (b d : B) → _≡_ {A = A × B} (a, b) (c, d) → (a ≡ c) × (b ≡ d))
     × ((m n f g : List ℕ) → board m f ≡ board n g → (m ≡ n) × (f ≡ g))
-    × ((s t : State) (b c : Board) → world s b ≡ world t c → (s ≡ t) × (b ≡ c))
-    × ((b c : Board) (m n : List ℕ) → bench b m ≡ bench c n → (b ≡ c) × (m ≡ n))
+    × ((k l : Masks) (s t : State) (b c : Board) → masked k s b ≡ masked l t c → (s ≡ t) × (b ≡ c) × (k ≡ l))
+    × ((k l : Masks) (b c : Board) (m n : List ℕ) → sharedBench k b m ≡ sharedBench l c n → (b ≡ c) × (m ≡ n) × (k ≡ l))
     × ((p q : ℕ) (x y : List ℕ) (c d s t a b : ℕ) → state p x c s a ≡ state q y d t b → (p ≡ q) × (x ≡ y) × (c ≡ d) × (s ≡ t) × (a ≡ b))

@@ -14,11 +14,11 @@ use Rattle.state.specs.declared.State.{State}
 use Rattle.state.specs.Sizes.{Fits}
 use Rattle.state.specs.States.{state}
 use Rattle.boards.specs.Boards.{BoardFits}
-use Rattle.engine.specs.Steps.{World, world, Sized, paused, ran, retired}
+use Rattle.engine.specs.Steps.{World, masked, onward, Sized, paused, ran, retired}
 use Rattle.machine.specs.Entries.{runEntry, ofRan}
 use Rattle.records.specs.Records.{ofWords, recordOf, stateOf}
 use Rattle.slots.specs.Slots.{slotThere, slotAt, writeEntry, ofWrite, readEntry, ofReadBack}
-use Rattle.resume.specs.Resuming.{Bench, bench, slotWorld, resumeEntry, ofResumed}
+use Rattle.resume.specs.Resuming.{Bench, sharedBench, benchOn, slotWorld, resumeEntry, ofResumed}
 use Rattle.resume.specs.declared.Resumed.the-variants.{Retired}
 use Rattle.promises.specs.Refusals.{resumeRows, Malformed, RecordMalformed}
 use Rattle.promises.specs.Steps.{Accepted}
@@ -38,11 +38,11 @@ SlotsThere (p ∷ ps) = (slotThere (p .slot) (p .slots) ≡ true) × SlotsThere 
 
 -- what a run leaves: its last state, and the board
 abbrev pub leftBy : ℕ → World → World
-leftBy b w = world (runEntry b w .answer .state) (runEntry b w .lent)
+leftBy b w = onward w (runEntry b w .answer .state) (runEntry b w .lent)
 
 -- the state written and read back
 abbrev pub readBack : Piece → World → World
-readBack p w = world (readEntry (p .slot) (writeEntry (p .slot) (w .st) (p .slots) .lent) .answer .state) (w .board)
+readBack p w = onward w (readEntry (p .slot) (writeEntry (p .slot) (w .st) (p .slots) .lent) .answer .state) (w .board)
 
 -- a first piece of budget b from w, then the others
 unfoldable pub cutRun : ℕ → List Piece → World → World
@@ -86,10 +86,10 @@ RetiredAddsUp =
 
 -- reading slot k, running what it holds, and writing that back
 abbrev pub slotStart : ℕ → Bench → World
-slotStart k h = world (readEntry k (h .slots) .answer .state) (h .board)
+slotStart k h = masked (h .masks) (readEntry k (h .slots) .answer .state) (h .board)
 
 unfoldable pub slotRun : ℕ → ℕ → Bench → Bench
-slotRun b k h = bench (leftBy b (slotStart k h) .board) (writeEntry k (leftBy b (slotStart k h) .st) (h .slots) .lent)
+slotRun b k h = benchOn h (leftBy b (slotStart k h) .board) (writeEntry k (leftBy b (slotStart k h) .st) (h .slots) .lent)
 
 -- is what running the slot leaves, refused or not
 abbrev pub SlotRunIsRun : Type 0
@@ -97,7 +97,7 @@ SlotRunIsRun = (b k : ℕ) (h : Bench) → BoardFits (h .board) → AllBelow (2 
 
 -- a start w, with its state written to slot k
 abbrev pub saved : ℕ → World → List ℕ → Bench
-saved k w slots = bench (w .board) (writeEntry k (w .st) slots .lent)
+saved k w slots = sharedBench (w .masks) (w .board) (writeEntry k (w .st) slots .lent)
 
 -- slot k run once for each of these budgets
 unfoldable pub slotRuns : ℕ → List ℕ → Bench → Bench

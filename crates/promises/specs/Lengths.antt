@@ -59,20 +59,20 @@ butForLength i x after d = outcome (endingAt after (shows i x) (d .answer)) (d .
 
 -- ---- the promises
 
--- what the instruction i of len bytes at pc does, with the registers x on the board b
-abbrev pub effectOf : Inst → ℕ → ℕ → List ℕ → Board → Done
-effectOf i len pc x b = performed (actFetched (Instruction i len) pc x) b
+-- what the instruction i of len bytes at pc does, with the registers x on the board b, in a run with these own words
+abbrev pub effectOf : ℕ → Inst → ℕ → ℕ → List ℕ → Board → Done
+effectOf own i len pc x b = performed own (actFetched (Instruction i len) pc x) b
 
 -- one instruction at one pc, with the same registers, memory and row, in any two lengths
 abbrev pub LengthOnly : Type 0
-LengthOnly = (i : Inst) (m n pc : ℕ) (x : List ℕ) (b : Board) → effectOf i m pc x b ≡ butForLength i x (sum pc m) (effectOf i n pc x b)
+LengthOnly = (own : ℕ) (i : Inst) (m n pc : ℕ) (x : List ℕ) (b : Board) → effectOf own i m pc x b ≡ butForLength i x (sum pc m) (effectOf own i n pc x b)
 
 -- where m2 has at pc a halfword that stands for i, and m4 has there the word of i: on any memory and row, what the bytes of m2 ask for does what i does in 2 bytes, what those of m4 ask for does what i does in 4, and the two are the same but for the length
 abbrev pub ShortActsAsLong : Type 0
 ShortActsAsLong =
-    (i : Inst) (pc : ℕ) (x m2 m4 : List ℕ) (b : Board)
+    (own : ℕ) (i : Inst) (pc : ℕ) (x m2 m4 : List ℕ) (b : Board)
     → pc + 2 ≤ length m2 → expands (load 2 pc m2) ≡ given i
     → pc + 4 ≤ length m4 → encodes i ≡ given (load 4 pc m4)
-    → (performed (actAt pc x m2) b ≡ effectOf i 2 pc x b)
-    × (performed (actAt pc x m4) b ≡ effectOf i 4 pc x b)
-    × (performed (actAt pc x m2) b ≡ butForLength i x (sum pc 2) (performed (actAt pc x m4) b))
+    → (performed own (actAt pc x m2) b ≡ effectOf own i 2 pc x b)
+    × (performed own (actAt pc x m4) b ≡ effectOf own i 4 pc x b)
+    × (performed own (actAt pc x m2) b ≡ butForLength i x (sum pc 2) (performed own (actAt pc x m4) b))

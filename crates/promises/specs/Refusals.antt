@@ -15,9 +15,9 @@ use Rattle.answers.specs.Refusals.{numberOf, wordOf}
 use Rattle.answers.specs.declared.Refusal.{Refusal}
 use Rattle.answers.specs.Entries.{Refuses, Keeps, Silent, SilentButWord}
 use Rattle.octets.specs.Bytes.{load}
-use Rattle.fuses.specs.Row.{keepsRules}
+use Rattle.fuses.specs.Row.{keepsRules, owns}
 use Rattle.state.specs.declared.State.{State}
-use Rattle.boards.specs.Boards.{Board, longestMemory}
+use Rattle.boards.specs.Boards.{Board, longestMemory, Masks}
 use Rattle.engine.specs.Steps.{World}
 use Rattle.machine.specs.declared.Stepped.{Stepped}
 use Rattle.machine.specs.declared.Ran.{Ran}
@@ -40,6 +40,10 @@ NotARow b = length (b .row) ≡ 512 → ⊥
 abbrev pub RecordBreaks : Board → Type 0
 RecordBreaks b = (k : ℕ) × (k < 64) × (keepsRules k (b .row) ≡ false)
 
+-- 16: masks that share a bit
+abbrev pub Shared : Masks → Type 0
+Shared m = (k : ℕ) × (owns (m .own) k ≡ true) × (owns (m .other) k ≡ true)
+
 -- 4: slot buffer not a multiple of 144, or no such slot
 abbrev pub NoSlot : ℕ → List ℕ → Type 0
 NoSlot k slots = (length slots % 144 ≡ 0 → ⊥) ⊎ (length slots / 144 ≤ k)
@@ -50,11 +54,11 @@ OddPc s = s .pc % 2 ≡ 1
 
 -- 14: a stop number out of range
 abbrev pub NoStop : State → Type 0
-NoStop s = 10 < s .stop
+NoStop s = 11 < s .stop
 
--- 15: an address that the stop number does not allow: it is not 3 to 9
+-- 15: an address that the stop number does not allow: it is not 3 to 9, nor 11
 abbrev pub StrayAddress : State → Type 0
-StrayAddress s = ((s .stop < 3) ⊎ (9 < s .stop)) × (s .address ≡ 0 → ⊥)
+StrayAddress s = ((s .stop < 3) ⊎ ((9 < s .stop) × (s .stop ≡ 11 → ⊥))) × (s .address ≡ 0 → ⊥)
 
 -- 15, on reading: bytes 137 to 143 break their rules: 137 to 139 are not zero, or 140 to 143 are such an address
 abbrev pub EndBreaks : List ℕ → Type 0
@@ -69,9 +73,9 @@ RecordMalformed r = Malformed (stateOf r) ⊎ (load 3 137 r ≡ 0 → ⊥)
 
 -- ---- the order of the entries
 
--- the rows of memory and fuse row, then those that follow
-abbrev pub boardRows : Board → (ℕ → Type 0) → ℕ → Type 0
-boardRows b later = refusal 1 (TooLong b) (refusal 2 (NotARow b) (refusal 3 (RecordBreaks b) later))
+-- the rows of memory, fuse row and masks, then those that follow
+abbrev pub startRows : Board → Masks → (ℕ → Type 0) → ℕ → Type 0
+startRows b m later = refusal 1 (TooLong b) (refusal 2 (NotARow b) (refusal 3 (RecordBreaks b) (refusal 16 (Shared m) later)))
 
 -- those of a state, and of a record
 abbrev pub stateRows : State → ℕ → Type 0
@@ -82,7 +86,7 @@ recordRows r = refusal 5 (OddPc (stateOf r)) (refusal 14 (NoStop (stateOf r)) (r
 
 -- those of step and run
 abbrev pub machineRows : World → ℕ → Type 0
-machineRows w = boardRows (w .board) (stateRows (w .st))
+machineRows w = startRows (w .board) (w .masks) (stateRows (w .st))
 
 abbrev pub writeRows : ℕ → State → List ℕ → ℕ → Type 0
 writeRows k s slots = refusal 4 (NoSlot k slots) (stateRows s)
@@ -91,7 +95,7 @@ abbrev pub readRows : ℕ → List ℕ → ℕ → Type 0
 readRows k slots = refusal 4 (NoSlot k slots) (recordRows (slotAt k slots))
 
 abbrev pub resumeRows : ℕ → Bench → ℕ → Type 0
-resumeRows k h = boardRows (h .board) (readRows k (h .slots))
+resumeRows k h = startRows (h .board) (h .masks) (readRows k (h .slots))
 
 -- ---- exactly if
 
@@ -154,7 +158,7 @@ NoOtherFact =
     × Silent ofReadBack (λ (i : ℕ × List ℕ). readEntry (i .0) (i .1))
     × SilentButWord ofResumed wordResumed (λ (i : ℕ × ℕ × Bench). resumeEntry (i .0) (i .1) (i .2))
 
--- ---- what is accepted is what was accepted when 5 stood for 5, 14 and 15
+-- ---- what is accepted is what was accepted when 5 stood for 5, 14 and 15, but that masks share no bit, and that there is a stop 11
 
 -- a record: bytes 5 to 7 zero, and mark 1 with a value other than 0, or mark 0 with value 0
 abbrev pub RowRecordBefore : ℕ → List ℕ → Type 0
@@ -170,9 +174,9 @@ RulesAsBefore = (k : ℕ) (row : List ℕ) → (keepsRules k row ≡ true) ↔ R
 abbrev pub BoardBefore : Board → Type 0
 BoardBefore b = (length (b .mem) ≤ 65536) × (length (b .row) ≡ 512) × ((k : ℕ) → k < 64 → RowRecordBefore k (b .row))
 
--- a state: an even pc, a stop number of at most 10, and no address with stop 0, 1, 2 or 10
+-- a state: an even pc, a stop number of at most 11, and no address with stop 0, 1, 2 or 10
 abbrev pub StateBefore : State → Type 0
-StateBefore s = (s .pc % 2 ≡ 0) × (s .stop ≤ 10) × ((s .stop ≡ 0) ⊎ (s .stop ≡ 1) ⊎ (s .stop ≡ 2) ⊎ (s .stop ≡ 10) → s .address ≡ 0)
+StateBefore s = (s .pc % 2 ≡ 0) × (s .stop ≤ 11) × ((s .stop ≡ 0) ⊎ (s .stop ≡ 1) ⊎ (s .stop ≡ 2) ⊎ (s .stop ≡ 10) → s .address ≡ 0)
 
 -- a slot that is there
 abbrev pub SlotBefore : ℕ → List ℕ → Type 0
@@ -188,8 +192,8 @@ AcceptedIf read o Holds = ((n : ℕ) → read (o .answer) ≡ refusedWith n → 
 
 abbrev pub AcceptedAsBefore : Type 0
 AcceptedAsBefore =
-    ((w : World) → AcceptedIf ofStepped (stepEntry w) (BoardBefore (w .board) × StateBefore (w .st)))
-    × ((b : ℕ) (w : World) → AcceptedIf ofRan (runEntry b w) (BoardBefore (w .board) × StateBefore (w .st)))
+    ((w : World) → AcceptedIf ofStepped (stepEntry w) (BoardBefore (w .board) × (Shared (w .masks) → ⊥) × StateBefore (w .st)))
+    × ((b : ℕ) (w : World) → AcceptedIf ofRan (runEntry b w) (BoardBefore (w .board) × (Shared (w .masks) → ⊥) × StateBefore (w .st)))
     × ((k : ℕ) (s : State) (slots : List ℕ) → AcceptedIf ofWrite (writeEntry k s slots) (SlotBefore k slots × StateBefore s))
     × ((k : ℕ) (slots : List ℕ) → AcceptedIf ofReadBack (readEntry k slots) (SlotBefore k slots × RecordBefore (slotAt k slots)))
-    × ((b k : ℕ) (h : Bench) → AcceptedIf ofResumed (resumeEntry b k h) (BoardBefore (h .board) × (SlotBefore k (h .slots) × RecordBefore (slotAt k (h .slots)))))
+    × ((b k : ℕ) (h : Bench) → AcceptedIf ofResumed (resumeEntry b k h) (BoardBefore (h .board) × (Shared (h .masks) → ⊥) × (SlotBefore k (h .slots) × RecordBefore (slotAt k (h .slots)))))

@@ -14,7 +14,7 @@ use Rattle.alu.specs.Arithmetic.{sum}
 use Rattle.state.specs.States.{state}
 use Rattle.execute.specs.declared.Act.{Act}
 use Rattle.execute.specs.declared.Act.the-variants.{Sets, Loads, Stores, Ends}
-use Rattle.engine.specs.Steps.{World, world, Sized, asked, paused, stepped, completes, ran, retired}
+use Rattle.engine.specs.Steps.{World, onward, Sized, asked, paused, stepped, completes, ran, retired}
 use Rattle.machine.specs.Entries.{stepEntry, ofStepped, runEntry, ofRan}
 use Rattle.promises.specs.Refusals.{Malformed, machineRows}
 
@@ -41,7 +41,7 @@ accessed (Loads o rd a next) = a
 accessed (Stores o v a next) = a
 accessed (Ends why) = 0
 
--- the address that each stop has, in a step of w that asks for the act: for stop 3 the pc; for stop 4 that of the halfword that could not be fetched, which is the second one where the first was within memory; for stops 5 to 9 the address accessed; for the others zero
+-- the address that each stop has, in a step of w that asks for the act: for stop 3 the pc; for stop 4 that of the halfword that could not be fetched, which is the second one where the first was within memory; for stops 5 to 9 and 11 the address accessed; for the others zero
 abbrev pub addressFor : Stop → World → Act → ℕ
 addressFor S.Ecall w act = 0
 addressFor S.Ebreak w act = 0
@@ -53,12 +53,13 @@ addressFor S.StoreMisaligned w act = accessed act
 addressFor S.StoreOutside w act = accessed act
 addressFor S.AlreadyBurnt w act = accessed act
 addressFor S.CountFull w act = 0
+addressFor S.NotOwned w act = accessed act
 
 -- a step that stops sets the stop number and its address, and changes nothing else; pc stays on that instruction and nothing is counted
 abbrev pub StopsCleanly : Type 0
 StopsCleanly =
     (w : World) → paused w ≡ true → completes w ≡ false
-    → (why : Stop) × (stepped w ≡ world (state (w .st .pc) (w .st .x) (w .st .count) (stopNumber why) (addressFor why w (asked w))) (w .board))
+    → (why : Stop) × (stepped w ≡ onward w (state (w .st .pc) (w .st .x) (w .st .count) (stopNumber why) (addressFor why w (asked w))) (w .board))
 
 -- what an accepted step or run hands back is never malformed
 abbrev pub StaysFormed : Type 0

@@ -58,7 +58,7 @@ cards-hold = (
             (refl, (refl, (refl, tt))),
             (
               (refl, (refl, (ap ofShortened (by-one (Imm Addi sp sp 16)), (refl, tt)))),
-              ((refl, (refl, tt)), ((λ rd next f. refl, tt), ((refl, (refl, tt)), ((ap endOf first-run, (refl, tt)), ((ap endOf second-run, tt), tt))))),
+              ((refl, (refl, tt)), ((λ own rd next f. refl, tt), ((refl, (refl, tt)), ((ap endOf first-run, (refl, tt)), ((ap endOf second-run, tt), tt))))),
             ),
           ),
         ),

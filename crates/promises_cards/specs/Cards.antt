@@ -72,7 +72,7 @@ Holds (long w a) = decodes w ≡ a
 Holds (short h a) = expands h ≡ a
 Holds (shorter i a) = shortens i ≡ a
 Holds (computed o a b v) = mulDivOf o a b ≡ v
-Holds (loads o a m v) = (rd : Reg) (next : ℕ) (f : List ℕ) → loaded o rd a next (board m f) ≡ Next rd v next
+Holds (loads o a m v) = (own : ℕ) (rd : Reg) (next : ℕ) (f : List ℕ) → loaded own o rd a next (board m f) ≡ Next rd v next
 Holds (steps w v) = stepped w ≡ v
 Holds (runs image f budget e) = endOf (runEntry budget (start image f)) ≡ e
 

@@ -119,11 +119,11 @@ ChartFilled = count filled 256 ≡ 57
 
 -- ---- the numbers themselves
 
--- every refusal's number is 1 to 15, and no two have one number, but for the word that 3 tells
+-- every refusal's number is 1 to 16, and no two have one number, but for the word that 3 tells
 abbrev pub RefusalNumbers : Type 0
-RefusalNumbers = ((r : Refusal) → (1 ≤ numberOf r) × (numberOf r ≤ 15)) × ((r s : Refusal) → numberOf r ≡ numberOf s → wordOf r ≡ wordOf s → r ≡ s)
+RefusalNumbers = ((r : Refusal) → (1 ≤ numberOf r) × (numberOf r ≤ 16)) × ((r s : Refusal) → numberOf r ≡ numberOf s → wordOf r ≡ wordOf s → r ≡ s)
 
--- every stop's number is 1 to 10, and no two have one number
+-- every stop's number is 1 to 11, and no two have one number
 abbrev pub StopNumbers : Type 0
 StopNumbers = ((s : Stop) → (1 ≤ stopNumber s) × (stopNumber s ≤ lastStop)) × ((s t : Stop) → stopNumber s ≡ stopNumber t → s ≡ t)
 

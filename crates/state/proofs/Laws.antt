@@ -42,27 +42,39 @@ bare n (inr (inl e)) = rw e
 bare n (inr (inr (inl e))) = rw e
 bare n (inr (inr (inr e))) = rw e
 
+-- below 3, or above 9 and not 11
+abbrev NotLocated : ℕ → Type 0
+NotLocated n = (n < 3) ⊎ ((9 < n) × (n ≡ 11 → ⊥))
+
+located-fails : (n : ℕ) → (located n ≡ false) ↔ NotLocated n
+located-fails n = (there, back)
+  where
+    there : located n ≡ false → NotLocated n
+    there e =
+        let f = or-fails (leb 3 n && leb n 9) (eqb n 11) e in
+        ⊎-elim (λ l. inl (leb-false 3 n l)) (λ l. inr (leb-false n 9 l, eqb-false n 11 (f .1))) (and-fails (leb 3 n) (leb n 9) (λ l. l, λ l. l) (λ l. l, λ l. l) .0 (f .0))
+
+    back : NotLocated n → located n ≡ false
+    back (inl l) = rw (lt-leb 3 n l, ne-eqb n 11 (λ e. omega arith))
+    back (inr h) = rw (le-leb 3 n (omega (arith, h .0)), lt-leb n 9 (h .0), ne-eqb n 11 (h .1))
+
 not-located : (n : ℕ) → located n ≡ false → n ≤ lastStop → HasNoAddress n
-not-located n e l =
-    ⊎-elim
-    (λ f. ⊎-elim (λ h. inl (omega arith)) (λ h. ⊎-elim (λ k. inr (inl (omega arith))) (λ k. inr (inr (inl (omega (arith, leb-false 3 n f))))) (below n 2)) (below n 1))
-    (λ f. inr (inr (inr (omega (arith, leb-false n 9 f)))))
-    (and-fails (leb 3 n) (leb n 9) (λ f. f, λ f. f) (λ f. f, λ f. f) .0 e)
+not-located n e l = ⊎-elim low-numbers ten (located-fails n .0 e)
+  where
+    low-numbers : n < 3 → HasNoAddress n
+    low-numbers h = ⊎-elim (λ a. inl (omega arith)) (λ a. ⊎-elim (λ b. inr (inl (omega arith))) (λ b. inr (inr (inl (omega arith)))) (below n 2)) (below n 1)
+
+    ten : (9 < n) × (n ≡ 11 → ⊥) → HasNoAddress n
+    ten h = ⊎-elim (λ a. inr (inr (inr (omega (arith, h .0))))) (λ a. absurd (h .1 (omega arith))) (below n 11)
 
 -- its address is not allowed
 abbrev StrayAddress : State → Type 0
-StrayAddress s = ((s .stop < 3) ⊎ (9 < s .stop)) × (s .address ≡ 0 → ⊥)
+StrayAddress s = NotLocated (s .stop) × (s .address ≡ 0 → ⊥)
 
 pub stray-address : (s : State) → (addressAllowed s ≡ false) ↔ StrayAddress s
 stray-address s = (
-  λ e. let f = or-fails (located (s .stop)) (eqb (s .address) 0) e in (
-    and-fails (leb 3 (s .stop)) (leb (s .stop) 9) (leb-false _ _, lt-leb _ _) (leb-false _ _, lt-leb _ _) .0 (f .0),
-    eqb-false _ _ (f .1),
-  ),
-  λ h. rw (
-    and-fails (leb 3 (s .stop)) (leb (s .stop) 9) (leb-false _ _, lt-leb _ _) (leb-false _ _, lt-leb _ _) .1 (h .0),
-    ne-eqb (s .address) 0 (h .1),
-  ),
+  λ e. let f = or-fails (located (s .stop)) (eqb (s .address) 0) e in (located-fails (s .stop) .0 (f .0), eqb-false _ _ (f .1)),
+  λ h. rw (located-fails (s .stop) .1 (h .0), ne-eqb (s .address) 0 (h .1)),
 )
 
 -- which states are malformed, and by which refusal
@@ -104,16 +116,16 @@ is-formed : (s : State) → s .pc % 2 ≡ 0 → StopFormed (s .stop) (s .address
 is-formed s e l = rw (eq-eqb (s .pc % 2) 0 e) l
 
 -- as it was said before the refusals were told apart
-pub formed-before : (s : State) → (wellFormed s ≡ true) ↔ ((s .pc % 2 ≡ 0) × (s .stop ≤ 10) × (HasNoAddress (s .stop) → s .address ≡ 0))
+pub formed-before : (s : State) → (wellFormed s ≡ true) ↔ ((s .pc % 2 ≡ 0) × (s .stop ≤ lastStop) × (HasNoAddress (s .stop) → s .address ≡ 0))
 formed-before s = (there, λ h. is-formed s (h .0) (back h))
   where
-    there : wellFormed s ≡ true → (s .pc % 2 ≡ 0) × (s .stop ≤ 10) × (HasNoAddress (s .stop) → s .address ≡ 0)
+    there : wellFormed s ≡ true → (s .pc % 2 ≡ 0) × (s .stop ≤ lastStop) × (HasNoAddress (s .stop) → s .address ≡ 0)
     there w =
         let p = and-eq-true-iff (eqb (s .pc % 2) 0) _ .0 w in
         let q = and-eq-true-iff (leb (s .stop) lastStop) (addressAllowed s) .0 (p .1) in
         (eqb-true _ _ (p .0), leb-true _ _ (q .0), λ n. eqb-true _ _ (rw (bare (s .stop) n) at (q .1)))
 
-    back : (s .pc % 2 ≡ 0) × (s .stop ≤ 10) × (HasNoAddress (s .stop) → s .address ≡ 0) → StopFormed (s .stop) (s .address)
+    back : (s .pc % 2 ≡ 0) × (s .stop ≤ lastStop) × (HasNoAddress (s .stop) → s .address ≡ 0) → StopFormed (s .stop) (s .address)
     back h = rw (le-leb _ _ (h .1)) (go (located (s .stop)) refl)
       where
         go : (b : Bool) → located (s .stop) ≡ b → (b || eqb (s .address) 0) ≡ true

@@ -142,10 +142,10 @@ impl State {
         if self.pc % 2 != 0 {
             return Check::Refused(Refusal::OddPc);
         }
-        if self.stop > 10 {
+        if self.stop > 11 {
             return Check::Refused(Refusal::StopNumber);
         }
-        let located = (3 <= self.stop) & (self.stop <= 9);
+        let located = ((3 <= self.stop) & (self.stop <= 9)) | (self.stop == 11);
         if !(zeros & (located | (self.address == 0))) {
             return Check::Refused(Refusal::RecordEnd);
         }

@@ -215,6 +215,8 @@ fn listings() {
         "trim",
         "clear_trim",
         "voltage_trim",
+        "reference_trim",
+        "oscillator_trim",
         "insertion_sort",
         "crc",
         "average",

@@ -1,9 +1,10 @@
 //! Runs cut into pieces, each saved to any slot of either of two buffers: A and B by turns, one slot
 //! again and again, two files.
 
-use crate::scene::Scene;
+use crate::scene::{self, Scene};
 use crate::tally::{Check, Difference, Tally};
-use phuyurik::{Board, Error, Slots, RECORD};
+use phuyurik::{Error, Slots, RECORD};
+use second::Masks;
 use testing::Random;
 
 /// Where a cut run stands: its memory and row, and the slot that holds its state.
@@ -15,14 +16,23 @@ struct Saved {
     kept: [Vec<u8>; 2],
     buffer: usize,
     slot: usize,
+    masks: Option<Masks>,
 }
 
-/// The second emulator's whole run against the proved one's in pieces.
-pub fn cut_run(tally: &mut Tally, random: &mut Random, scene: &Scene) -> Check {
+/// The second emulator's whole run against the proved one's in pieces, with masks or without.
+pub fn cut_run(
+    tally: &mut Tally,
+    random: &mut Random,
+    scene: &Scene,
+    masks: Option<Masks>,
+) -> Check {
     let mut whole = scene.clone();
-    let (mem, row) = (&mut whole.mem, &mut whole.row);
-    let answer = second::run(&mut whole.state, mem, row, scene.budget);
-    let mut saved = Saved::new(random, scene);
+    let (state, mem, row) = (&mut whole.state, &mut whole.mem, &mut whole.row);
+    let answer = match masks {
+        None => second::run(state, mem, row, scene.budget),
+        Some(masks) => second::run_masked(state, mem, row, masks, scene.budget),
+    };
+    let mut saved = Saved::new(random, scene, masks);
     let mut retired = 0;
     for budget in cuts(random, scene.budget) {
         let piece = if random.once_in(2) {
@@ -47,7 +57,7 @@ pub fn cut_run(tally: &mut Tally, random: &mut Random, scene: &Scene) -> Check {
 
 impl Saved {
     /// The scene's own slot, and a second buffer of any bytes, whole slots of them.
-    fn new(random: &mut Random, scene: &Scene) -> Saved {
+    fn new(random: &mut Random, scene: &Scene, masks: Option<Masks>) -> Saved {
         let slots = random.length(1, 3);
         let buffers = [scene.slots.clone(), random.bytes(RECORD * slots)];
         Saved {
@@ -57,12 +67,13 @@ impl Saved {
             buffers,
             buffer: 0,
             slot: scene.k,
+            masks,
         }
     }
 
     fn run_in_slot(&mut self, budget: u64) -> Result<u64, Error> {
         let mut slots = Slots::new(&mut self.buffers[self.buffer]);
-        let mut board = Board::new(&mut self.mem, &mut self.row);
+        let mut board = scene::board(&mut self.mem, &mut self.row, self.masks);
         let retired = board.run_slot(&mut slots, self.slot, budget)?;
         self.note_written();
         Ok(retired)
@@ -71,7 +82,8 @@ impl Saved {
     /// Reads the slot, runs, and writes any slot of either buffer.
     fn run_and_move(&mut self, random: &mut Random, budget: u64) -> Result<u64, Error> {
         let mut state = Slots::new(&self.buffers[self.buffer]).read(self.slot)?;
-        let retired = Board::new(&mut self.mem, &mut self.row).run(&mut state, budget)?;
+        let mut board = scene::board(&mut self.mem, &mut self.row, self.masks);
+        let retired = board.run(&mut state, budget)?;
         self.buffer = random.length(0, 1);
         let mut slots = Slots::new(&mut self.buffers[self.buffer]);
         self.slot = random.length(0, slots.len() - 1);
@@ -87,7 +99,7 @@ impl Saved {
 }
 
 /// Budgets whose sum is the given one, zeros among them.
-fn cuts(random: &mut Random, budget: u64) -> Vec<u64> {
+pub fn cuts(random: &mut Random, budget: u64) -> Vec<u64> {
     let mut pieces = Vec::new();
     let mut left = budget;
     for _ in 0..random.length(0, 6) {

@@ -8,15 +8,21 @@ mod direct;
 mod every_word;
 mod lent;
 mod lines;
+mod masked;
+mod masks;
 mod options;
+mod pairs;
 mod places;
 mod program;
 mod refusals;
+mod row_access;
 mod row_store;
 mod runs;
 mod scene;
+mod shared;
 mod tally;
 mod texts;
+mod turns;
 mod words;
 
 use options::{Options, HELP};
@@ -132,6 +138,7 @@ fn one_round(tally: &mut Tally, seed: u64) -> Check {
     let mut random = Random::new(mix(seed));
     words::round(tally, &mut random)?;
     runs::round(tally, &mut random)?;
+    masked::round(tally, &mut random)?;
     refusals::round(tally, &mut random)?;
     texts::round(tally, &mut random)?;
     lines::round(tally, &mut random)

@@ -14,8 +14,9 @@ Before the rounds come every halfword, lines of every operation, and of the 2^32
 sixteenth that the seed chooses; with --seconds 0 all of them.
 
 Exit: 0 no difference; 1 a difference, or a stop, an address of one, a store into the row (of zero or
-not, to a blank word or a burnt one), a refusal, its word or a kind of its place that was never
-reached; 2 usage.
+not, to a blank word or a burnt one), with masks an access to the row (its own word or not, blank or
+burnt), a kind of masks or of turns or of two rows, a refusal, its word or a kind of its place that
+was never reached; 2 usage.
 ";
 
 pub struct Options {

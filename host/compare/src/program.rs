@@ -1,7 +1,7 @@
 //! Random programs: mostly legal instructions of both lengths, short jumps, accesses near the
 //! ends of memory and in the window, stores over code; and recipes that work on the row alone.
 
-use second::{op, Inst};
+use second::{op, Inst, Masks};
 use testing::Random;
 
 /// Registers that programs use as addresses and seldom write to.
@@ -19,6 +19,8 @@ pub enum Temper {
     Calm,
     /// Clears and burns words of the row, reads them, and works out others between.
     Trimming,
+    /// As `Trimming`, on its own words; one access in so many strays to the other's or to any.
+    Sharing { masks: Masks, strays: u64 },
     /// Anything; one in so many instructions is any bits.
     Wild(u64),
 }
@@ -34,6 +36,10 @@ pub fn code(random: &mut Random, length: usize, temper: Temper) -> Vec<u8> {
             }
             Temper::Trimming => {
                 let inst = trimming_instruction(random);
+                emit(random, inst, &mut code);
+            }
+            Temper::Sharing { masks, strays } => {
+                let inst = sharing_instruction(random, masks, strays);
                 emit(random, inst, &mut code);
             }
             Temper::Wild(junk) => wild_piece(random, junk, &mut code),
@@ -76,6 +82,32 @@ fn trimming_instruction(random: &mut Random) -> Inst {
         6 => calm(random, branch),
         _ => calm(random, immediate_arithmetic),
     }
+}
+
+/// Loads, and stores of zero and of others, in the same measure.
+fn sharing_instruction(random: &mut Random, masks: Masks, strays: u64) -> Inst {
+    let base = random.pick(&ROW_POINTERS);
+    let mask = if random.once_in(strays) {
+        random.pick(&[masks.other, u64::MAX])
+    } else {
+        masks.own
+    };
+    let word = 4 * word_of(random, mask);
+    match random.below(8) {
+        0 => store(op::SW, 0, base, word),
+        1 | 2 => store(op::SW, any_register(random), base, word),
+        3 | 4 => indexed(op::LW, random.pick(&[0, 3, 11, 12, 13]), base, word),
+        5 => calm(random, branch),
+        _ => calm(random, immediate_arithmetic),
+    }
+}
+
+/// A word of the mask; any where it has none.
+fn word_of(random: &mut Random, mask: u64) -> u32 {
+    let any = random.below(64) as u32;
+    let mut from_it_on = (any..any + 64).map(|word| word % 64);
+    let found = from_it_on.find(|word| mask >> word & 1 == 1);
+    found.unwrap_or(any)
 }
 
 /// Keeps pointers and links as they are, jumps a little way, accesses a little way from a pointer.

@@ -50,7 +50,7 @@ impl RowStore {
     }
 }
 
-fn instruction_at(mem: &[u8], pc: u32) -> Option<Inst> {
+pub fn instruction_at(mem: &[u8], pc: u32) -> Option<Inst> {
     let code = mem.get(pc as usize..)?;
     let half = u16::from_le_bytes(*code.first_chunk()?);
     if half & 3 != 3 {
@@ -59,7 +59,7 @@ fn instruction_at(mem: &[u8], pc: u32) -> Option<Inst> {
     second::decode(u32::from_le_bytes(*code.first_chunk()?)).ok()
 }
 
-fn register(state: &State, number: u32) -> u32 {
+pub fn register(state: &State, number: u32) -> u32 {
     number
         .checked_sub(1)
         .map_or(0, |place| state.x[place as usize])

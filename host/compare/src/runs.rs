@@ -35,7 +35,7 @@ pub fn round(tally: &mut Tally, random: &mut Random) -> Check {
         walk(tally, random)?;
         whole_run(tally, random)?;
         let scene = sound_or_calm(random);
-        cut_run(tally, random, &scene)?;
+        cut_run(tally, random, &scene, None)?;
         clear_and_trim(tally, random)?;
         slots(tally, random)?;
     }
@@ -137,7 +137,7 @@ fn clear_and_trim(tally: &mut Tally, random: &mut Random) -> Check {
     }
     compare(tally, Entry::Run, &scene)?;
     compare(tally, Entry::RunSlot, &scene)?;
-    cut_run(tally, random, &scene)
+    cut_run(tally, random, &scene, None)
 }
 
 /// Slots read, written and run, with states and buffers of every kind.

@@ -1,11 +1,14 @@
 //! All that a call may be given, and the entries called on it by both emulators.
 
+use crate::direct;
 use crate::lent::Lent;
+use crate::masks;
 use crate::program::{self, Temper};
+use crate::row_access::RowAccess;
 use crate::row_store::RowStore;
 use crate::tally::{first_other, number, Difference, Tally};
 use phuyurik::{Board, Error, Slots, Stop, RECORD, ROW};
-use second::{op, Inst, Refused, State};
+use second::{op, stop, Inst, Masks, Refused, State};
 use std::ops::Range;
 use testing::Random;
 
@@ -17,6 +20,8 @@ pub struct Scene {
     pub slots: Vec<u8>,
     pub k: usize,
     pub budget: u64,
+    /// Whose the words of the row are; only for the entries that are given masks.
+    pub masks: Masks,
     /// How far from their natural places the proved emulator is lent the buffers.
     pub shift: usize,
 }
@@ -28,6 +33,9 @@ pub enum Entry {
     WriteSlot,
     ReadSlot,
     RunSlot,
+    StepMasked,
+    RunMasked,
+    RunSlotMasked,
 }
 
 /// Where the stop number, the zeros after it and the address of a state stand in its record.
@@ -61,6 +69,26 @@ pub fn to_second(proved: &phuyurik::State) -> State {
     state
 }
 
+/// What the proved emulator runs on, with masks or without.
+pub fn board<'a>(mem: &'a mut [u8], row: &'a mut [u8], masks: Option<Masks>) -> Board<'a> {
+    match masks {
+        None => Board::new(mem, row),
+        Some(Masks { own, other }) => {
+            let masks = phuyurik::Masks {
+                own: own.into(),
+                other: other.into(),
+            };
+            Board::shared(mem, row, masks)
+        }
+    }
+}
+
+/// The word that a state stopped at because it is not its own.
+pub fn foreign_word(state: &State) -> Option<usize> {
+    let word = (state.address.wrapping_sub(program::WINDOW) / 4) as usize;
+    (state.stop == stop::NOT_OWNED).then_some(word)
+}
+
 /// The number retired where the entry answers one, else 0; or the refusal with what it tells.
 pub type Answer = Result<u64, Refused>;
 
@@ -86,18 +114,21 @@ impl Entry {
     fn by_proved(self, scene: &mut Scene) -> Result<Answer, Difference> {
         let lend = |bytes: &[u8]| Lent::new(bytes, scene.shift);
         let mut lent = (lend(&scene.mem), lend(&scene.row), lend(&scene.slots));
-        let mut board = Board::new(lent.0.content(), lent.1.content());
+        let masks = self.is_masked().then_some(scene.masks);
+        let mut board = board(lent.0.content(), lent.1.content(), masks);
         let mut slots = Slots::new(lent.2.content());
         let mut state = to_proved(&scene.state);
         let answer = match self {
-            Entry::Step => board.step(&mut state).map(|()| 0),
-            Entry::Run => board.run(&mut state, scene.budget),
+            Entry::Step | Entry::StepMasked => board.step(&mut state).map(|()| 0),
+            Entry::Run | Entry::RunMasked => board.run(&mut state, scene.budget),
             Entry::WriteSlot => slots.write(scene.k, &state).map(|()| 0),
             Entry::ReadSlot => slots.read(scene.k).map(|read| {
                 state = read;
                 0
             }),
-            Entry::RunSlot => board.run_slot(&mut slots, scene.k, scene.budget),
+            Entry::RunSlot | Entry::RunSlotMasked => {
+                board.run_slot(&mut slots, scene.k, scene.budget)
+            }
         };
         scene.state = to_second(&state);
         (scene.mem, scene.row, scene.slots) = (lent.0.back()?, lent.1.back()?, lent.2.back()?);
@@ -106,27 +137,41 @@ impl Entry {
 
     fn by_second(self, scene: &mut Scene) -> Answer {
         let (mem, row, slots) = (&mut scene.mem, &mut scene.row, &mut scene.slots);
-        let state = &mut scene.state;
+        let (state, k, masks) = (&mut scene.state, scene.k, scene.masks);
         match self {
             Entry::Step => second::step(state, mem, row).map(|()| 0),
             Entry::Run => second::run(state, mem, row, scene.budget),
             Entry::WriteSlot => {
-                second::write_slot(slots, scene.k, state)?;
+                second::write_slot(slots, k, state)?;
                 Ok(0)
             }
             Entry::ReadSlot => {
-                *state = second::read_slot(slots, scene.k)?;
+                *state = second::read_slot(slots, k)?;
                 Ok(0)
             }
-            Entry::RunSlot => second::run_slot(mem, row, slots, scene.k, scene.budget),
+            Entry::RunSlot => second::run_slot(mem, row, slots, k, scene.budget),
+            Entry::StepMasked => second::step_masked(state, mem, row, masks).map(|()| 0),
+            Entry::RunMasked => second::run_masked(state, mem, row, masks, scene.budget),
+            Entry::RunSlotMasked => {
+                second::run_slot_masked(mem, row, slots, k, masks, scene.budget)
+            }
         }
+    }
+
+    pub fn is_masked(self) -> bool {
+        matches!(
+            self,
+            Entry::StepMasked | Entry::RunMasked | Entry::RunSlotMasked
+        )
     }
 
     /// The state that the entry works on.
     fn subject(self, scene: &Scene) -> Option<State> {
         match self {
-            Entry::Step | Entry::Run => Some(scene.state.clone()),
-            Entry::RunSlot => second::read_slot(&scene.slots, scene.k).ok(),
+            Entry::Step | Entry::Run | Entry::StepMasked | Entry::RunMasked => {
+                Some(scene.state.clone())
+            }
+            Entry::RunSlot | Entry::RunSlotMasked => second::read_slot(&scene.slots, scene.k).ok(),
             Entry::WriteSlot | Entry::ReadSlot => None,
         }
     }
@@ -145,12 +190,28 @@ pub fn compare(tally: &mut Tally, entry: Entry, before: &Scene) -> Result<After,
         return Err(Difference(format!("{entry:?} refused, but altered a byte")));
     }
     tally.note_refused(answers.1);
-    note_stop(tally, entry, before, &second);
-    note_row_store(tally, entry, before, &second);
-    Ok(After {
+    let after = After {
         answer: answers.1,
         scene: second,
-    })
+    };
+    if entry.is_masked() {
+        foreign_words_stay(before, &after.scene)?;
+        tally.note_masks(before.masks, after.answer);
+    }
+    direct::compare(tally, entry, before, &after)?;
+    note_stop(tally, entry, before, &after.scene);
+    note_row_access(tally, entry, before, &after.scene);
+    Ok(after)
+}
+
+/// Whatever both emulators say, no word that is not the recipe's own may have changed.
+fn foreign_words_stay(before: &Scene, after: &Scene) -> Result<(), Difference> {
+    let is_row = before.row.len() == ROW;
+    if is_row && masks::joined(before.masks.own, &after.row, &before.row) != after.row {
+        let what = format!("a word changed that is not its own: {:x?}", before.masks);
+        return Err(Difference(what));
+    }
+    Ok(())
 }
 
 /// Counts the stop that a paused state came to, and its address; paused only if it retired something.
@@ -166,11 +227,19 @@ fn note_stop(tally: &mut Tally, entry: Entry, before: &Scene, after: &Scene) {
     }
 }
 
-/// Counts what a step stored into the row, or stopped at there.
-fn note_row_store(tally: &mut Tally, entry: Entry, before: &Scene, after: &Scene) {
-    if entry == Entry::Step && before.state != after.state {
+/// Counts what a step loaded or stored in the row, or stopped at there.
+fn note_row_access(tally: &mut Tally, entry: Entry, before: &Scene, after: &Scene) {
+    if before.state == after.state {
+        return;
+    }
+    if entry == Entry::Step {
         if let Some(kind) = RowStore::next(before) {
             tally.row_stores[kind as usize] += 1;
+        }
+    }
+    if entry == Entry::StepMasked {
+        if let Some(kind) = RowAccess::next(before) {
+            tally.accesses[kind.owner as usize][kind.place()] += 1;
         }
     }
 }
@@ -185,7 +254,7 @@ fn describe(
     let at = (before.state.pc as usize).min(before.mem.len());
     let end = (at + 16).min(before.mem.len());
     let text = format!(
-        "{entry:?} of budget {} in slot {} of {} bytes, memory of {}, row of {}\n  \
+        "{entry:?} of budget {} in slot {} of {} bytes, memory of {}, row of {}, {:x?}\n  \
          answers: phuyurik {:?}, second {:?}\n  before: {:x?}\n  bytes at pc: {:02x?}\n  \
          phuyurik: {:x?}\n  second:   {:x?}\n  first other byte: memory {:?}, row {:?}, slots {:?}",
         before.budget,
@@ -193,6 +262,7 @@ fn describe(
         before.slots.len(),
         before.mem.len(),
         before.row.len(),
+        before.masks,
         answers.0,
         answers.1,
         before.state,
@@ -234,10 +304,23 @@ pub fn calm(random: &mut Random) -> Scene {
     scene
 }
 
-/// As `sound`, with a recipe that clears and trims, and perhaps begins anew at its end.
+/// As `sound`, with a recipe that clears and trims.
 pub fn trimming(random: &mut Random) -> Scene {
+    recipe(random, Temper::Trimming)
+}
+
+/// As `trimming`, with masks: a recipe that works on its own words, and perhaps strays from them.
+pub fn sharing(random: &mut Random, masks: Masks) -> Scene {
+    let strays = random.pick(&[4, 16, u64::MAX]);
+    let mut scene = recipe(random, Temper::Sharing { masks, strays });
+    scene.masks = masks;
+    scene
+}
+
+/// A recipe on the row, which perhaps begins anew at its end.
+fn recipe(random: &mut Random, temper: Temper) -> Scene {
     let length = random.length(8, 200);
-    let mut mem = program::code(random, length, Temper::Trimming);
+    let mut mem = program::code(random, length, temper);
     let end = random.pick(&[op::ECALL, op::JAL]);
     let back = (mem.len() as u32).wrapping_neg();
     let last = Inst {
@@ -265,6 +348,7 @@ fn with_slots(random: &mut Random, state: State, mem: Vec<u8>) -> Scene {
         slots: vec![0; RECORD * slots],
         k: random.length(0, slots - 1),
         budget: budget(random),
+        masks: masks::disjoint(random),
         shift: random.length(0, 7),
     };
     for k in 0..slots {
@@ -365,7 +449,7 @@ fn count(random: &mut Random) -> u64 {
 }
 
 /// A sound row: blank, full, or partly burnt, never with 0.
-fn row(random: &mut Random) -> Vec<u8> {
+pub fn row(random: &mut Random) -> Vec<u8> {
     let burnt_in_eight = random.pick(&[0, 0, 1, 4, 8]);
     let mut row = vec![0; ROW];
     for record in row.chunks_exact_mut(8) {

@@ -1,10 +1,13 @@
 //! What was compared, and what was reached by it.
 
+use crate::masks::{MaskKind, Owner};
 use crate::places::Place;
+use crate::row_access::RowAccess;
 use crate::row_store::RowStore;
 use crate::scene::Answer;
+use crate::shared::Shared;
 use phuyurik::{Error, Refusal, Stop};
-use second::{Fault, State};
+use second::{Fault, Masks, State};
 use std::fmt::{Debug, Display};
 
 /// What differed, in words.
@@ -28,6 +31,12 @@ pub struct Tally {
     pub second_halfwords: u64,
     /// How often a single step came to each kind of store into the row.
     pub row_stores: [u64; RowStore::ALL.len()],
+    /// How often a single step of a recipe with masks came to each kind of access to the row.
+    pub accesses: [[u64; RowAccess::OF_OWNER]; Owner::ALL.len()],
+    /// How often each kind of masks was accepted, or refused with 16.
+    pub masks: [u64; MaskKind::ALL.len()],
+    /// How often two recipes on one row, or one on two rows, came to each of these.
+    pub shared: [u64; Shared::ALL.len()],
     /// How often each refusal was answered; the first place stays 0.
     pub refusals: [u64; Refusal::ALL.len() + 1],
     /// How often refusal 3 told another word than 0, which would stand there without having been told.
@@ -103,6 +112,21 @@ impl Tally {
         self.later_words += u64::from(word.is_some_and(|word| word > 0));
     }
 
+    /// Counts the kinds of masks that an answer depends on: not those that were never looked at.
+    pub fn note_masks(&mut self, masks: Masks, answer: Answer) {
+        let refusal = answer.map_or_else(|refused| refused.number, |_| 0);
+        if refusal != 0 && refusal != Refusal::MasksShare.number() {
+            return;
+        }
+        for (kind, count) in MaskKind::ALL.iter().zip(&mut self.masks) {
+            *count += u64::from(kind.holds(masks));
+        }
+    }
+
+    pub fn note_shared(&mut self, kind: Shared) {
+        self.shared[kind as usize] += 1;
+    }
+
     /// Counts the kinds of places that a text's refusal has.
     pub fn note_place(&mut self, text: &[u8], answer: Result<usize, Fault>) {
         let Err(fault) = answer else {
@@ -142,13 +166,21 @@ impl Tally {
             .zip(self.row_stores)
     }
 
+    /// How often each kind of masks, and what two recipes came to, was reached.
+    fn owned(&self) -> impl Iterator<Item = (&'static str, u64)> + '_ {
+        let masks = MaskKind::ALL.map(MaskKind::words).into_iter();
+        let shared = Shared::ALL.map(Shared::words).into_iter();
+        let masks = masks.zip(self.masks);
+        masks.chain(shared.zip(self.shared))
+    }
+
     /// How often each kind of place of a refused line was reached.
     fn placed(&self) -> impl Iterator<Item = (&'static str, u64)> + '_ {
         Place::ALL.map(Place::words).into_iter().zip(self.places)
     }
 
-    /// The stops, their addresses, the stores into the row, the refusals, their words and their places
-    /// that were never reached; a full comparison has none.
+    /// The stops, their addresses, the stores into the row, what masks can come to, the refusals, their
+    /// words and their places that were never reached; a full comparison has none.
     pub fn missing(&self) -> Vec<String> {
         let mut reached = Vec::new();
         let mut note = |what: String, count: u64| reached.push((what, count));
@@ -161,6 +193,12 @@ impl Tally {
         note("stop 4 at pc + 2".to_string(), self.second_halfwords);
         for (kind, count) in self.stored() {
             note(format!("a store of {kind}"), count);
+        }
+        for (access, count) in RowAccess::all().zip(self.accesses.as_flattened()) {
+            note(format!("with masks, {}", access.words()), *count);
+        }
+        for (kind, count) in self.owned() {
+            note(format!("with masks, {kind}"), count);
         }
         for (number, count) in self.refusals.iter().enumerate().skip(1) {
             note(format!("refusal {number}"), *count);
@@ -178,15 +216,21 @@ impl Tally {
 
     pub fn summary(&self, differences: u32, seed: u64) -> String {
         let (comparisons, steps) = (grouped(self.comparisons), grouped(self.steps));
+        let least = self.accesses.as_flattened().iter().min();
+        let least = least.copied().unwrap_or(0);
         format!(
             "compare: {comparisons} comparisons ({steps} steps), {differences} differences, \
              seed {seed}, stops 0-{} reached: {}, addresses of stop {}, 4 at pc + 2: {}, \
-             stores of {}, refusals 1-{} reached: {}, words above 0: {}, places: {}",
+             stores of {}, with masks: each of {} accesses: {} or more, {}, \
+             refusals 1-{} reached: {}, words above 0: {}, places: {}",
             self.stops.len() - 1,
             counts(&self.stops),
             named(self.addressed()),
             grouped(self.second_halfwords),
             named(self.stored()),
+            self.accesses.as_flattened().len(),
+            grouped(least),
+            named(self.owned()),
             self.refusals.len() - 1,
             counts(&self.refusals[1..]),
             grouped(self.later_words),
@@ -249,12 +293,15 @@ mod tests {
         let mut tally = Tally {
             stops: [1; Stop::ALL.len()],
             row_stores: [1; RowStore::ALL.len()],
+            accesses: [[1; RowAccess::OF_OWNER]; Owner::ALL.len()],
+            masks: [1; MaskKind::ALL.len()],
+            shared: [1; Shared::ALL.len()],
             refusals: [1; Refusal::ALL.len() + 1],
             later_words: 1,
             places: [1; Place::ALL.len()],
             ..Tally::default()
         };
-        for stop in 3..=9 {
+        for stop in (3..=9).chain([11]) {
             assert!(tally
                 .missing()
                 .contains(&format!("an address of stop {stop}")));
@@ -278,6 +325,28 @@ mod tests {
             let name = format!("a refusal's place: {}", place.words());
             assert!(tally.missing().contains(&name));
         }
+    }
+
+    #[test]
+    fn what_masks_never_came_to_is_missing() {
+        let kinds = MaskKind::ALL.map(MaskKind::words).map(str::to_string);
+        let shared = Shared::ALL.map(Shared::words).map(str::to_string);
+        let accesses = RowAccess::all().map(RowAccess::words);
+        let missing = Tally::default().missing();
+        for what in accesses.chain(kinds).chain(shared) {
+            assert!(missing.contains(&format!("with masks, {what}")), "{what}");
+        }
+        let mut tally = Tally::default();
+        tally.note_shared(Shared::WentOn);
+        let found = |tally: &Tally| missing.len() - tally.missing().len();
+        assert_eq!(found(&tally), 1);
+        let equal = Masks { own: 1, other: 1 };
+        tally.note_masks(equal, Err(3.into()));
+        assert_eq!(found(&tally), 1);
+        tally.note_masks(equal, Err(16.into()));
+        assert_eq!(found(&tally), 4);
+        tally.note_masks(Masks::default(), Ok(0));
+        assert_eq!(found(&tally), 5);
     }
 
     #[test]

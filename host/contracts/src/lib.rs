@@ -107,7 +107,19 @@ fn lent(parameters: &str) -> Vec<String> {
 }
 
 // What a bundle is made of, besides the result and the lent buffers.
-const BUNDLES: [&str; 6] = ["outcome", "world", "board", "bench", "state", "tt"];
+const BUNDLES: [&str; 8] = [
+    "outcome",
+    "world",
+    "masked",
+    "board",
+    "bench",
+    "sharedBench",
+    "state",
+    "tt",
+];
+
+// The masks that a call was given, which stand in the bundle as they came: equal bundles have equal parts.
+const MASKS: &str = "(masks own other) ";
 
 impl Contract {
     /// What is wrong with its form, if anything.
@@ -136,7 +148,7 @@ impl Contract {
 
     /// The left side is the result and every lent buffer at exit, each once, and nothing else.
     fn bundle_flaw(&self, result: &str, left: &str) -> Option<&'static str> {
-        let mut rest = left.to_string();
+        let mut rest = left.replacen(MASKS, "", 1);
         for name in &self.lent {
             let exit = format!("now ({name} .exit)");
             if rest.matches(&exit).count() != 1 {

@@ -19,14 +19,17 @@ fn every_public_contract_is_an_equation() {
 }
 
 // What a host calls, besides the exports.
-const ENTRIES: [&str; 18] = [
+const ENTRIES: [&str; 21] = [
     "assembler::assemble",
     "machine::step",
+    "machine::step_masked",
     "machine::run",
+    "machine::run_masked",
     "slots::write_slot",
     "slots::read_slot",
     "resume::run_slot",
-    "boards::check_board",
+    "resume::run_slot_masked",
+    "boards::check_start",
     "fuses::check_row",
     "disassembler::text_of_word",
     "disassembler::text_of_half",

@@ -16,9 +16,9 @@ mod text;
 pub use assemble::{assemble, Fault};
 pub use decode::{chart, decode};
 pub use encode::encode;
-pub use machine::{run, step, Refused, State};
+pub use machine::{run, run_masked, step, step_masked, Masks, Refused, State};
 pub use short::{expand, shorten};
-pub use slots::{read_slot, run_slot, write_slot};
+pub use slots::{read_slot, run_slot, run_slot_masked, write_slot};
 pub use text::{list, listing, text_of, text_of_half, text_of_word};
 
 /// An instruction as numbers: its operation (a place in the paper's order) and its operands.
@@ -50,6 +50,7 @@ pub mod refusal {
     pub const OUTPUT_ROOM: u32 = 13;
     pub const STOP_NUMBER: u32 = 14;
     pub const RECORD_END: u32 = 15;
+    pub const MASKS_SHARE: u32 = 16;
 }
 
 /// The stops' numbers.
@@ -65,6 +66,9 @@ pub mod stop {
     pub const STORE_OUTSIDE: u8 = 8;
     pub const ALREADY_BURNT: u8 = 9;
     pub const COUNT_FULL: u8 = 10;
+    pub const NOT_OWNED: u8 = 11;
+    /// The last number that a state may have.
+    pub const LAST: u8 = NOT_OWNED;
 }
 
 /// The operations, numbered in the paper's order.

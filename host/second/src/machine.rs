@@ -39,17 +39,74 @@ impl From<u32> for Refused {
     }
 }
 
+/// Which words of the row are this recipe's and which the other's: bit k is word k, 0 lowest.
+#[derive(Clone, Copy, Debug, PartialEq, Eq)]
+pub struct Masks {
+    pub own: u64,
+    pub other: u64,
+}
+
+/// Those of a call without masks: every word is its own.
+impl Default for Masks {
+    fn default() -> Masks {
+        Masks {
+            own: u64::MAX,
+            other: 0,
+        }
+    }
+}
+
+impl Masks {
+    /// As the other recipe is given them.
+    pub fn swapped(self) -> Masks {
+        Masks {
+            own: self.other,
+            other: self.own,
+        }
+    }
+}
+
 /// One step; refusals 1, 2, 3, 5, 14 and 15.
 pub fn step(s: &mut State, mem: &mut [u8], row: &mut [u8]) -> Result<(), Refused> {
-    run(s, mem, row, 1).map(|_| ())
+    step_masked(s, mem, row, Masks::default())
+}
+
+/// As `step`, by a recipe with these masks; refusals 1, 2, 3, 16, 5, 14 and 15.
+pub fn step_masked(
+    s: &mut State,
+    mem: &mut [u8],
+    row: &mut [u8],
+    masks: Masks,
+) -> Result<(), Refused> {
+    run_masked(s, mem, row, masks, 1).map(|_| ())
 }
 
 /// Steps while the state is paused and fewer than `budget` have retired; answers how many did.
 /// Refusals 1, 2, 3, 5, 14 and 15.
 pub fn run(s: &mut State, mem: &mut [u8], row: &mut [u8], budget: u64) -> Result<u64, Refused> {
+    run_masked(s, mem, row, Masks::default(), budget)
+}
+
+/// As `run`, by a recipe with these masks; refusals 1, 2, 3, 16, 5, 14 and 15.
+pub fn run_masked(
+    s: &mut State,
+    mem: &mut [u8],
+    row: &mut [u8],
+    masks: Masks,
+    budget: u64,
+) -> Result<u64, Refused> {
     check_memory_and_row(mem, row)?;
+    check_masks(masks)?;
     check_state(s)?;
-    Ok(run_checked(s, mem, row, budget))
+    Ok(run_checked(s, mem, row, masks.own, budget))
+}
+
+/// No word is both recipes'; one of neither is allowed.
+pub(crate) fn check_masks(masks: Masks) -> Result<(), u32> {
+    match masks.own & masks.other {
+        0 => Ok(()),
+        _ => Err(refusal::MASKS_SHARE),
+    }
 }
 
 pub(crate) fn check_memory_and_row(mem: &[u8], row: &[u8]) -> Result<(), Refused> {
@@ -85,7 +142,7 @@ pub(crate) fn check_state(s: &State) -> Result<(), u32> {
     let is_address_sound = may_have_address || s.address == 0;
     if !s.pc.is_multiple_of(2) {
         Err(refusal::ODD_PC)
-    } else if s.stop > stop::COUNT_FULL {
+    } else if s.stop > stop::LAST {
         Err(refusal::STOP_NUMBER)
     } else if s.zero != [0; 3] || !is_address_sound {
         Err(refusal::RECORD_END)
@@ -94,8 +151,14 @@ pub(crate) fn check_state(s: &State) -> Result<(), u32> {
     }
 }
 
-/// As `run`, on arguments that have been checked.
-pub(crate) fn run_checked(s: &mut State, mem: &mut [u8], row: &mut [u8], budget: u64) -> u64 {
+/// As `run_masked`, on arguments that have been checked.
+pub(crate) fn run_checked(
+    s: &mut State,
+    mem: &mut [u8],
+    row: &mut [u8],
+    own: u64,
+    budget: u64,
+) -> u64 {
     if s.stop != stop::PAUSED {
         return 0;
     }
@@ -106,6 +169,7 @@ pub(crate) fn run_checked(s: &mut State, mem: &mut [u8], row: &mut [u8], budget:
         x,
         mem,
         row,
+        own,
     };
     let mut retired = 0;
     while retired < budget {
@@ -128,6 +192,8 @@ struct Machine<'a> {
     x: [u32; 32],
     mem: &'a mut [u8],
     row: &'a mut [u8],
+    /// The words of the row that this recipe may load and store.
+    own: u64,
 }
 
 /// The number of a stop and where it stopped, which is 0 for a stop that has no address.
@@ -254,7 +320,7 @@ impl Machine<'_> {
         }
     }
 
-    /// The N bytes at an address: misaligned, then outside.
+    /// The N bytes at an address: misaligned, then outside, then not its own.
     #[inline(always)]
     fn read<const N: usize>(&self, address: u32) -> Outcome<[u8; N]> {
         if !(address as usize).is_multiple_of(N) {
@@ -270,12 +336,20 @@ impl Machine<'_> {
     /// The value of a row's word; a blank one has value 0. Only whole words are read there.
     fn read_row<const N: usize>(&self, address: u32) -> Outcome<[u8; N]> {
         let outside = Stopped::at(address, stop::LOAD_OUTSIDE);
-        let record = record_at(address).filter(|_| N == 4);
-        let record = &self.row[8 * record.ok_or(outside)?..];
-        record.first_chunk().copied().ok_or(outside)
+        let word = word_at(address).filter(|_| N == 4).ok_or(outside)?;
+        self.check_owner(word, address)?;
+        self.row[8 * word..].first_chunk().copied().ok_or(outside)
     }
 
-    /// Stores N bytes at an address: misaligned, then outside, then already burnt.
+    /// A word of the other's, and one of nobody's, stops whatever it holds.
+    fn check_owner(&self, word: usize, address: u32) -> Outcome<()> {
+        match self.own & 1 << word {
+            0 => Err(Stopped::at(address, stop::NOT_OWNED)),
+            _ => Ok(()),
+        }
+    }
+
+    /// Stores N bytes at an address: misaligned, then outside, then not its own, then already burnt.
     #[inline(always)]
     fn write<const N: usize>(&mut self, address: u32, bytes: [u8; N]) -> Outcome<()> {
         if !(address as usize).is_multiple_of(N) {
@@ -292,9 +366,11 @@ impl Machine<'_> {
     /// Stores a word in the row, which burns it; zero is no pulse and leaves a blank word blank. Only
     /// whole words are stored there, and into a burnt one nothing, zero neither.
     fn write_row(&mut self, address: u32, bytes: &[u8]) -> Outcome<()> {
-        let record = record_at(address).filter(|_| bytes.len() == 4);
         let outside = Stopped::at(address, stop::STORE_OUTSIDE);
-        let record = &mut self.row[8 * record.ok_or(outside)?..];
+        let word = word_at(address).filter(|_| bytes.len() == 4);
+        let word = word.ok_or(outside)?;
+        self.check_owner(word, address)?;
+        let record = &mut self.row[8 * word..];
         if record[4] != 0 {
             return Err(Stopped::at(address, stop::ALREADY_BURNT));
         }
@@ -307,7 +383,7 @@ impl Machine<'_> {
 }
 
 /// Which word of the row an address in the window lies in.
-fn record_at(address: u32) -> Option<usize> {
+fn word_at(address: u32) -> Option<usize> {
     let offset = address.wrapping_sub(WINDOW);
     (offset < WINDOW_LENGTH).then_some(offset as usize / 4)
 }

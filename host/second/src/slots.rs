@@ -1,7 +1,7 @@
 //! States in slots: records of 144 bytes, one after the other.
 
-use crate::machine::{check_memory_and_row, check_state, run_checked};
-use crate::{refusal, Refused, State};
+use crate::machine::{check_masks, check_memory_and_row, check_state, run_checked};
+use crate::{refusal, Masks, Refused, State};
 use std::ops::Range;
 
 const RECORD: usize = 144;
@@ -31,9 +31,22 @@ pub fn run_slot(
     k: usize,
     budget: u64,
 ) -> Result<u64, Refused> {
+    run_slot_masked(mem, row, slots, k, Masks::default(), budget)
+}
+
+/// As `run_slot`, by a recipe with these masks; refusals 1, 2, 3, 16, 4, 5, 14 and 15.
+pub fn run_slot_masked(
+    mem: &mut [u8],
+    row: &mut [u8],
+    slots: &mut [u8],
+    k: usize,
+    masks: Masks,
+    budget: u64,
+) -> Result<u64, Refused> {
     check_memory_and_row(mem, row)?;
+    check_masks(masks)?;
     let mut s = read_slot(slots, k)?;
-    let retired = run_checked(&mut s, mem, row, budget);
+    let retired = run_checked(&mut s, mem, row, masks.own, budget);
     write_slot(slots, k, &s)?;
     Ok(retired)
 }

@@ -160,7 +160,7 @@ fn an_address_is_refused_with_a_stop_that_has_none() {
         (record[0], record[136]) = (2, stop);
         record[140..].copy_from_slice(&address.to_le_bytes());
         let answer = match stop {
-            3..=9 => Ok(()),
+            3..=9 | 11 => Ok(()),
             0 | 1 | 2 | 10 if address == 0 => Ok(()),
             0 | 1 | 2 | 10 => Err(15),
             _ => Err(14),
@@ -171,7 +171,7 @@ fn an_address_is_refused_with_a_stop_that_has_none() {
 
 #[test]
 fn bytes_137_to_139_are_zero_with_every_stop() {
-    for (stop, place) in (0..=10).flat_map(|stop| [0, 1, 2].map(|place| (stop, place))) {
+    for (stop, place) in (0..=11).flat_map(|stop| [0, 1, 2].map(|place| (stop, place))) {
         let mut s = State { stop, ..at(2) };
         s.zero[place] = 128;
         let mut record = [0; 144];
@@ -183,7 +183,8 @@ fn bytes_137_to_139_are_zero_with_every_stop() {
 /// A stopped state keeps whatever address it has, in a run and in a slot.
 #[test]
 fn a_stopped_state_keeps_its_address() {
-    for (stop, address) in (3..=9).flat_map(|stop| [0, 6, 0x1234_5678].map(|a| (stop, a))) {
+    let with_address = (3..=9).chain([11]);
+    for (stop, address) in with_address.flat_map(|stop| [0, 6, 0x1234_5678].map(|a| (stop, a))) {
         let s = State {
             stop,
             address,

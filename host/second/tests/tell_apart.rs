@@ -1,4 +1,5 @@
-//! Which refusal a bad record gets, and which word: cards from the words of the fourth change request.
+//! Which refusal a bad record gets, and which word: cards from the words of the fourth change request;
+//! and where masks that share a bit come, from those of the sixth.
 
 use second::*;
 
@@ -8,6 +9,7 @@ struct Faults {
     memory_too_long: bool,
     row_length: bool,
     row_record: bool,
+    masks_share: bool,
     no_slot: bool,
     odd_pc: bool,
     stop: u8,
@@ -52,6 +54,13 @@ impl Faults {
         row
     }
 
+    fn masks(self) -> Masks {
+        Masks {
+            own: 1 << 63 | 1,
+            other: if self.masks_share { u64::MAX } else { 2 },
+        }
+    }
+
     fn slot(self) -> usize {
         usize::from(self.no_slot)
     }
@@ -60,12 +69,16 @@ impl Faults {
     fn of_state(self) -> Option<u32> {
         let has_no_address = matches!(self.stop, 0 | 1 | 2 | 10);
         let breaks_15 = self.zero != [0; 3] || has_no_address && self.address != 0;
-        let faults = [(self.odd_pc, 5), (self.stop > 10, 14), (breaks_15, 15)];
+        let faults = [(self.odd_pc, 5), (self.stop > 11, 14), (breaks_15, 15)];
         first(&faults)
     }
 
     fn of_slot(self) -> Option<u32> {
         first(&[(self.no_slot, 4)])
+    }
+
+    fn of_masks(self) -> Option<u32> {
+        first(&[(self.masks_share, 16)])
     }
 
     fn of_board(self) -> Option<u32> {
@@ -109,6 +122,7 @@ fn are_told(faults: Faults) {
     let ran = run_slot(&mut mem_after, &mut row_after, &mut slots, faults.slot(), 0).map(|_| ());
     let expected = answer(board.or(faults.of_slot()).or(state));
     assert_eq!((ran, slots), (expected, faults.record()), "{faults:?}");
+    masked_are_told(faults, &mut mem_after, &mut row_after);
     assert!((mem_after, row_after) == (mem, row));
     let expected = answer(faults.of_slot().or(state));
     let read = read_slot(&slots, faults.slot()).map(|read| assert_eq!(read, s));
@@ -122,6 +136,24 @@ fn are_told(faults: Faults) {
         [0xee; 144]
     };
     assert_eq!(slots, written);
+}
+
+/// As above, of the entries that have masks: 16 comes after 3, and before 4, 5, 14 and 15.
+fn masked_are_told(faults: Faults, mem: &mut [u8], row: &mut [u8]) {
+    let (s, masks) = (faults.state(), faults.masks());
+    let board = faults.of_board().or(faults.of_masks());
+    let expected = answer(board.or(faults.of_state()));
+    let mut after = s.clone();
+    let stepped = step_masked(&mut after, mem, row, masks);
+    assert_eq!(stepped, expected, "step_masked: {faults:?}");
+    assert!(stepped.is_ok() || after == s);
+    let mut after = s.clone();
+    let ran = run_masked(&mut after, mem, row, masks, 0).map(|_| ());
+    assert_eq!((ran, after), (expected, s), "run_masked: {faults:?}");
+    let (mut slots, k) = (faults.record(), faults.slot());
+    let ran = run_slot_masked(mem, row, &mut slots, k, masks, 0).map(|_| ());
+    let expected = answer(board.or(faults.of_slot()).or(faults.of_state()));
+    assert_eq!((ran, slots), (expected, faults.record()), "{faults:?}");
 }
 
 /// An odd pc or not, with every stop number, and with each byte after it, or none.
@@ -142,10 +174,10 @@ fn a_state_is_refused_with_5_then_14_then_15() {
     }
 }
 
-/// Every set of faults: 1, 2, 3, 4, 5, 14, and 15 by a byte that should be zero and by an address.
+/// Every set of faults: 1, 2, 3, 16, 4, 5, 14, and 15 by a byte that should be zero and by an address.
 #[test]
 fn the_first_of_all_faults_is_told() {
-    for set in 0..1_u32 << 8 {
+    for set in 0..1_u32 << 9 {
         let is = |place: u32| set >> place & 1 == 1;
         are_told(Faults {
             memory_too_long: is(0),
@@ -153,9 +185,10 @@ fn the_first_of_all_faults_is_told() {
             row_record: is(2),
             no_slot: is(3),
             odd_pc: is(4),
-            stop: if is(5) { 11 } else { 10 },
+            stop: if is(5) { 12 } else { 10 },
             zero: [0, 0, u8::from(is(6))],
             address: u32::from(is(7)),
+            masks_share: is(8),
         });
     }
 }

@@ -1,6 +1,7 @@
 //! The command line.
 use super::error::Error;
 use super::help;
+use phuyurik::{Masks, Words};
 use std::collections::{BTreeMap, VecDeque};
 use std::ffi::OsString;
 use std::path::PathBuf;
@@ -23,7 +24,7 @@ pub enum Command {
         until: Option<usize>,
     },
     Assemble(Assembly),
-    Row(PathBuf),
+    Row(PathBuf, Option<Masks>),
     Slot(PathBuf, usize),
     Status(PathBuf),
     Forget {
@@ -79,6 +80,8 @@ pub struct Order {
     pub accept_row: bool,
     /// On copies: no file is changed.
     pub dry_run: bool,
+    /// Whose the words of the row are, if that was said.
+    pub masks: Option<Masks>,
 }
 
 /// What `phuyurik assemble` is to do.
@@ -169,7 +172,7 @@ const fn takes(
 }
 
 const RUN_VALUES: &[&str] = &[
-    "--row", "--slots", "--slot", "--budget", "--piece", "--memory",
+    "--row", "--slots", "--slot", "--budget", "--piece", "--memory", "--own", "--other",
 ];
 const RUN_FLAGS: &[&str] = &[
     "--resume",
@@ -183,7 +186,7 @@ const TAKEN: &[Takes] = &[
     takes("run", &["IMAGE"], RUN_VALUES, RUN_FLAGS),
     takes("list", &["IMAGE"], &["--until"], &["--text"]),
     takes("assemble", &["TEXT"], &["-o", "--onto", "--until"], &[]),
-    takes("row", &["FILE"], &[], &[]),
+    takes("row", &["FILE"], &["--own", "--other"], &[]),
     takes("slot", &["FILE", "K"], &[], &[]),
     takes("status", &["FOLDER"], &[], &[]),
     takes("forget", &["SLOTS", "K"], &[], &["--yes"]),
@@ -282,6 +285,19 @@ impl Given {
         }
     }
 
+    /// A list of words, or a mask.
+    fn words_if_given(&self, name: &str) -> Result<Option<Words>, Error> {
+        let Some(word) = self.values.get(name) else {
+            return Ok(None);
+        };
+        match word.to_string_lossy().parse() {
+            Ok(words) => Ok(Some(words)),
+            Err(why) => wrong(format!(
+                "{name}: {why}; words are such as 0-31,40, or 0x00ff for a mask"
+            )),
+        }
+    }
+
     /// A length or a place, which on a small machine may be too large for any.
     fn size(&self, name: &str) -> Result<usize, Error> {
         let number = self.number(name)?;
@@ -295,7 +311,7 @@ fn command_of(given: Given) -> Result<Command, Error> {
         "run" => Command::Run(order(&given)?),
         "list" => list(&given)?,
         "assemble" => Command::Assemble(assembly(&given)?),
-        "row" => Command::Row(given.path("FILE")?),
+        "row" => Command::Row(given.path("FILE")?, masks(&given)?),
         "slot" => Command::Slot(given.path("FILE")?, given.size("K")?),
         "status" => Command::Status(given.path("FOLDER").unwrap_or_else(|_| ".".into())),
         "forget" => Command::Forget {
@@ -348,6 +364,20 @@ fn assembly(given: &Given) -> Result<Assembly, Error> {
     }
 }
 
+/// Whether they share a word is the library's to say.
+fn masks(given: &Given) -> Result<Option<Masks>, Error> {
+    let own = given.words_if_given("--own")?;
+    let other = given.words_if_given("--other")?;
+    match (own, other) {
+        (None, None) => Ok(None),
+        (None, Some(_)) => wrong("--other needs --own"),
+        (Some(own), other) => {
+            let other = other.unwrap_or(Words::NONE);
+            Ok(Some(Masks { own, other }))
+        }
+    }
+}
+
 fn order(given: &Given) -> Result<Order, Error> {
     let mode = match (given.has("--resume"), given.has("--restart")) {
         (true, true) => return wrong("--resume and --restart exclude each other"),
@@ -370,6 +400,7 @@ fn order(given: &Given) -> Result<Order, Error> {
         new: given.has("--new"),
         accept_row: given.has("--accept-row"),
         dry_run: given.has("--dry-run"),
+        masks: masks(given)?,
     };
     match order.piece {
         0 => wrong("--piece must be at least 1"),
@@ -400,9 +431,10 @@ mod tests {
             new: false,
             accept_row: false,
             dry_run: false,
+            masks: None,
         };
         assert_eq!(parsed(line).expect("right"), Command::Run(order.clone()));
-        let more = "--memory 9 --piece 7 --resume --new --accept-row --dry-run";
+        let more = "--memory 9 --piece 7 --resume --new --accept-row --dry-run --own 0-7";
         let order = Order {
             piece: 7,
             memory: Some(9),
@@ -410,6 +442,7 @@ mod tests {
             new: true,
             accept_row: true,
             dry_run: true,
+            masks: Some(masks_of(0xFF, 0)),
             ..order
         };
         let line = format!("{line} {more}");
@@ -420,6 +453,26 @@ mod tests {
             parsed(&line).expect("right"),
             Command::Run(Order { mode, ..order })
         );
+    }
+
+    fn masks_of(own: u64, other: u64) -> Masks {
+        let (own, other) = (own.into(), other.into());
+        Masks { own, other }
+    }
+
+    #[test]
+    fn words_of_two_recipes() {
+        let row = |masks| Command::Row("r".into(), masks);
+        let lines = [
+            ("row r", None),
+            ("row r --own 0-31", Some(masks_of(0xFFFF_FFFF, 0))),
+            ("row --other 9,8 r --own 0x3", Some(masks_of(3, 0x300))),
+            ("row r --own all --other none", Some(Masks::default())),
+            ("row r --own 5 --other 5", Some(masks_of(32, 32))),
+        ];
+        for (line, masks) in lines {
+            assert_eq!(parsed(line).expect(line), row(masks));
+        }
     }
 
     #[test]
@@ -533,7 +586,9 @@ mod tests {
                      assemble a -o -|assemble a -o b --onto|assemble a -o b --text|\
                      assemble a -o b --onto c|assemble a -o b --until 112|slot a|slot a +1|\
                      slot a -1|slot a x|demo now|status a b|forget s|forget s x|forget s 0 --no|adopt s 0|adopt s|settle|settle r s|\
-                     settle r --row r|mend|mend s 0";
+                     settle r --row r|mend|mend s 0|row r --other 3|row r --own|row r --own 64|\
+                     row r --own 5-3|row r --own 1,,2|row r --own 0x|row r --own 3,3|\
+                     row r --own -1|row r --own 1 --own 2|row r --own 1 --other 0-64|slot s 0 --own 1";
         lines.split('|').for_each(is_wrong);
     }
 
@@ -541,7 +596,7 @@ mod tests {
     fn wrong_runs_are_usage_errors() {
         let whole = "run a --row r --slots s --slot 0 --budget 1";
         let more = "--piece 0|--piece|--row q|b|--fast|--budget|--resume --restart|--memory|\
-                    --memory x|--yes";
+                    --memory x|--yes|--other 0|--own|--own x|--own 0 --other|--own 0 --other 64";
         for more in more.split('|') {
             is_wrong(&format!("{whole} {more}"));
         }

@@ -63,6 +63,7 @@ fn shown_in(folder: &Path) -> Result<String, Error> {
         new: true,
         accept_row: false,
         dry_run: false,
+        masks: None,
     };
     std::fs::write(&order.image, RECIPE).map_err(|why| Error::file(&order.image, why))?;
     let listing = listing::list(&order.image, None)?;
@@ -72,7 +73,7 @@ fn shown_in(folder: &Path) -> Result<String, Error> {
     is_as_on_card(&first, 3, Stop::Ecall, 10, &[(0, 7)])?;
     text += &format!("\nIts run on a blank row:\n{}", show::facts(&first));
     let row = files::read(&order.row, usize::MAX)?;
-    text += &format!("\nThe row:\n{}", show::row(&order.row)?);
+    text += &format!("\nThe row:\n{}", show::row(&order.row, None)?);
     let again = Order {
         new: false,
         mode: Mode::Restart,

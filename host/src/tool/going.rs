@@ -50,7 +50,8 @@ impl Going {
         let run = &mut self.moment.run;
         let before = run.row.clone();
         let mut slots = Slots::new(&mut run.record);
-        let retired = Board::new(&mut run.bytes, &mut run.row).run_slot(&mut slots, 0, steps)?;
+        let retired = Board::shared(&mut run.bytes, &mut run.row, run.masks)
+            .run_slot(&mut slots, 0, steps)?;
         let new = known::mask_of_new(&before, &run.row);
         run.burnt |= new;
         self.burnt |= new;

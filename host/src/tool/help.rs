@@ -1,7 +1,7 @@
 //! The help texts. The exit codes at the end of each come from the lists of what can go wrong.
 use super::error::{refusal_code, Kind};
 use super::show::{stop_code, stop_text};
-use phuyurik::Argument::{self, Bits, Memory, Row, Slots, State, Text};
+use phuyurik::Argument::{self, Bits, Masks, Memory, Row, Slots, State, Text};
 use phuyurik::{Refusal, Stop};
 
 const COLUMNS: usize = 80;
@@ -145,6 +145,7 @@ const RUN: Help = Help {
     about: "\
 Usage: phuyurik run IMAGE --row FILE --slots FILE --slot K --budget N
                     [--resume | --restart] [--new] [--accept-row]
+                    [--own WORDS [--other WORDS]]
                     [--memory N] [--piece N] [--dry-run]
 
 Runs the recipe IMAGE for at most N steps on the part whose row is in FILE,
@@ -152,8 +153,8 @@ with its state in slot K, and tells what was retired, the count, the stop, the
 pc and the words burnt since the recipe's start. A paused run of this recipe
 and this row in slot K is carried on. One that has ended is told of, if standard
 output has not taken its end yet. Otherwise the recipe starts, unless a run on
-this row is paused elsewhere. So the same command, repeated while it exits with
-10, comes to the recipe's end.
+this row is paused elsewhere that shares a word with it. So the same command,
+repeated while it exits with 10, comes to the recipe's end.
 
   --row FILE    the part's row, 512 bytes
   --slots FILE  saved states, 144 bytes each; made and lengthened as needed
@@ -168,6 +169,19 @@ this row is paused elsewhere. So the same command, repeated while it exits with
                 words of it are known to be burnt that are blank or other
                 there; a run that burnt any of them is not carried on over the
                 new part, but started over with --restart
+  --own WORDS   the recipe's own words, where two recipes take turns on one
+                row, each in a slot of its own: a load or store at any other
+                word stops it. WORDS is a list such as 0-31,40, or all, or none,
+                or a mask such as 0x00ff, whose bit k stands for word k
+                (default all). A start that names none is refused, also with
+                --restart, where the last run in slot K has masks, or one on
+                this row that is paused or in the same slots file: --own all
+                says that all words are meant
+  --other WORDS the other recipe's words, of which none may be an own one
+                (default none). A run keeps its masks to its end: carried on
+                it needs neither option, and is refused with other masks. Try
+                them with --dry-run first: words left out of --own by a slip
+                stop the recipe for good, perhaps with half of its words burnt
   --memory N    memory of N bytes: the image, and zeros after it
   --piece N     saves after every N steps (default 5000000)
   --dry-run     runs on copies and tells which words would be burnt; no file is
@@ -180,8 +194,8 @@ Files beside the row and the slots:
   ROW.journal       a save under way; the next run carries it out. Never
                     remove it: it may be all that knows of a burnt word.
   ROW.seen          the words that are known to be burnt in this row, and where
-                    a run on it was last paused
-  SLOTS.K.memory    the run in slot K, with its memory
+                    runs on it were last paused
+  SLOTS.K.memory    the run in slot K, with its memory and its masks
   ROW.lock, SLOTS.K.lock, SLOTS.lock
                     held by a run while it works; they stay, also between runs
   *.tmp             left by a run that was killed; harmless
@@ -192,9 +206,11 @@ Example:
       --budget 1000 --new
   while phuyurik run trim.bin --row part.row --slots line.slots --slot 0 \\
       --budget 1000; [ $? -eq 10 ]; do :; done
+  phuyurik run reference_trim.bin --row part.row --slots line.slots --slot 0 \\
+      --budget 1000 --own 0-31 --other 32-63
 ",
     does: Does::Runs,
-    lends: &[Memory, Row, Slots, State],
+    lends: &[Memory, Row, Masks, Slots, State],
 };
 
 const LIST: Help = Help {
@@ -259,17 +275,23 @@ Example:
 const ROW: Help = Help {
     command: "row",
     about: "\
-Usage: phuyurik row FILE
+Usage: phuyurik row FILE [--own WORDS [--other WORDS]]
 
 Shows the burnt words of a row: index, address, value in decimal and in
 hexadecimal; then how many words are burnt and how many blank. A save that was
 cut short is shown as the next run will carry it out.
 
+  --own WORDS    also shows whose each word is, where WORDS are a recipe's own:
+                 a list such as 0-31,40, or a mask such as 0x00ff
+  --other WORDS  the other recipe's words, of which none may be an own one; the
+                 rest are then no one's
+
 Example:
   phuyurik row part.row
+  phuyurik row part.row --own 0-31 --other 32-63
 ",
     does: Does::Looks,
-    lends: &[Row],
+    lends: &[Row, Masks],
 };
 
 const SLOT: Help = Help {
@@ -293,8 +315,9 @@ const STATUS: Help = Help {
     about: "\
 Usage: phuyurik status [FOLDER]
 
-Shows the runs and the rows of a folder (this one, if none is given), saves that
-were cut short, whatever is damaged or missing, and what to do next.
+Shows the runs, with their masks, and the rows of a folder (this one, if none is
+given), saves that were cut short, whatever is damaged or missing, and what to
+do next.
 
 Example:
   phuyurik status

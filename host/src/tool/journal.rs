@@ -10,16 +10,20 @@
 use super::error::Error;
 use super::files::{self, Action};
 use super::known::Seen;
-use super::place::Place;
+use super::place::{LastPaused, Paused, Place};
 use super::row_file;
 use super::sealed::{digest, seal, unseal, Broken};
-use phuyurik::{Board, Row, Slots, State, RECORD};
+use phuyurik::{Board, Masks, Row, Slots, State, RECORD};
 use std::ffi::OsStr;
 use std::os::unix::ffi::OsStrExt;
 use std::path::{Path, PathBuf};
 
 const JOURNAL: &[u8; 8] = b"phuyJRN2";
 const MEMORY: &[u8; 8] = b"phuyMEM2";
+/// With masks. Earlier versions know nothing of masks, and must not carry such a run on; without them
+/// they can read what is written.
+const JOURNAL_MASKED: &[u8; 8] = b"phuyJRN3";
+const MEMORY_MASKED: &[u8; 8] = b"phuyMEM3";
 
 /// A slots file is made or lengthened for at most this many: a slip in a number should not fill a
 /// disk.
@@ -57,6 +61,8 @@ pub struct Memory {
     /// It has ended, and standard output has taken the report of that.
     pub told: bool,
     pub bytes: Vec<u8>,
+    /// Whose the words of the row are, from the recipe's start to its end.
+    pub masks: Masks,
 }
 
 /// A run as it is saved, and the slot that it is saved in. The slots' path is canonical.
@@ -65,7 +71,7 @@ pub struct Moment {
     pub slots_path: PathBuf,
     pub slot: usize,
     /// What `ROW.seen` remembers from this save on.
-    pub last_paused: Option<Place>,
+    pub last_paused: LastPaused,
     pub run: Memory,
 }
 
@@ -127,7 +133,7 @@ fn yes_or_no(field: &[u8]) -> Option<bool> {
     }
 }
 
-/// The fields of a run, in the order of the files.
+/// The fields of a run without masks, in the order of the files. The masks follow them.
 type Fields<'a> = [&'a [u8]; 9];
 
 impl Memory {
@@ -137,9 +143,7 @@ impl Memory {
         let Some(bytes) = files::read_if_there(&path, usize::MAX)? else {
             return Ok(None);
         };
-        let memory = unseal(MEMORY, &bytes)
-            .and_then(|fields| Memory::from_fields(fields).ok_or(Broken::Damaged));
-        memory.map(Some).map_err(|broken| {
+        Memory::from_bytes(&bytes).map(Some).map_err(|broken| {
             let slots = slots_path.display();
             let way_on =
                 format!("bring a copy of it back, or give the run up (forget {slots} {slot})");
@@ -147,8 +151,25 @@ impl Memory {
         })
     }
 
+    fn from_bytes(bytes: &[u8]) -> Result<Memory, Broken> {
+        let memory = match unseal::<11>(MEMORY_MASKED, bytes) {
+            Err(Broken::Version) => Memory::from_fields(unseal(MEMORY, bytes)?, Masks::default()),
+            fields => Memory::from_masked_fields(&fields?),
+        };
+        memory.ok_or(Broken::Damaged)
+    }
+
+    fn from_masked_fields(fields: &[&[u8]]) -> Option<Memory> {
+        let (fields, masks) = fields.split_first_chunk()?;
+        let [own, other] = masks else {
+            return None;
+        };
+        let (own, other) = (number(own)?.into(), number(other)?.into());
+        Memory::from_fields(*fields, Masks { own, other })
+    }
+
     /// Nothing that the library would refuse: a run that was saved had been accepted by it.
-    fn from_fields(fields: Fields) -> Option<Memory> {
+    fn from_fields(fields: Fields, masks: Masks) -> Option<Memory> {
         let [row_path, serial, length, image, record, row, burnt, told, bytes] = fields;
         let memory = Memory {
             row_path: path_from(row_path),
@@ -162,16 +183,21 @@ impl Memory {
             burnt: number(burnt)?,
             told: yes_or_no(told)?,
             bytes: bytes.to_vec(),
+            masks,
         };
         let mut copy = memory.clone();
-        let accepted = Board::new(&mut copy.bytes, &mut copy.row)
+        let accepted = Board::shared(&mut copy.bytes, &mut copy.row, masks)
             .run_slot(&mut Slots::new(&mut copy.record), 0, 0)
             .is_ok();
         (accepted && memory.bytes.len() as u64 >= memory.image.length).then_some(memory)
     }
 
-    /// Gives the fields to whoever seals them; some of them live only here.
-    fn with_fields<T>(&self, seal: impl FnOnce(Fields) -> T) -> T {
+    pub fn is_masked(&self) -> bool {
+        self.masks != Masks::default()
+    }
+
+    /// Gives the fields to whoever seals them, the masks last; some of them live only here.
+    fn with_fields<T>(&self, seal: impl FnOnce([&[u8]; 11]) -> T) -> T {
         seal([
             path_bytes(&self.row_path),
             &self.serial.to_le_bytes(),
@@ -182,11 +208,16 @@ impl Memory {
             &self.burnt.to_le_bytes(),
             &[u8::from(self.told)],
             &self.bytes,
+            &self.masks.own.mask().to_le_bytes(),
+            &self.masks.other.mask().to_le_bytes(),
         ])
     }
 
     pub fn to_bytes(&self) -> Vec<u8> {
-        self.with_fields(|fields| seal(MEMORY, &fields))
+        self.with_fields(|fields| match self.is_masked() {
+            true => seal(MEMORY_MASKED, &fields),
+            false => seal(MEMORY, &fields[..9]),
+        })
     }
 
     /// The state in its record.
@@ -207,27 +238,52 @@ impl Memory {
 
 impl Moment {
     pub fn to_journal(&self) -> Vec<u8> {
+        let is_plain = !self.run.is_masked() && self.last_paused.is_plain();
+        let last_paused = match is_plain {
+            true => self.last_paused.to_plain_field(),
+            false => self.last_paused.to_field(),
+        };
         self.run.with_fields(|run| {
             let slot = (self.slot as u64).to_le_bytes();
-            let last_paused = Place::to_field(self.last_paused.as_ref());
             let mut fields = vec![path_bytes(&self.slots_path), &slot, &last_paused];
             fields.extend(run);
-            seal(JOURNAL, &fields)
+            match is_plain {
+                true => seal(JOURNAL, &fields[..12]),
+                false => seal(JOURNAL_MASKED, &fields),
+            }
         })
     }
 
     fn from_journal(bytes: &[u8]) -> Result<Moment, Broken> {
-        let fields: [&[u8]; 12] = unseal(JOURNAL, bytes)?;
-        let (own, run) = fields.split_at(3);
-        let moment = || {
-            Some(Moment {
-                slots_path: path_from(own[0]),
-                slot: usize::try_from(number(own[1])?).ok()?,
-                last_paused: Place::from_field(own[2]).ok()?,
-                run: Memory::from_fields(run.try_into().ok()?)?,
-            })
-        };
-        moment().ok_or(Broken::Damaged)
+        match unseal::<14>(JOURNAL_MASKED, bytes) {
+            Err(Broken::Version) => {
+                let fields: [&[u8]; 12] = unseal(JOURNAL, bytes)?;
+                let (own, run) = fields.split_at(3);
+                let run = run.try_into().or(Err(Broken::Damaged))?;
+                let run = Memory::from_fields(run, Masks::default());
+                Moment::from_fields(own, LastPaused::from_plain_field(own[2])?, run)
+            }
+            fields => {
+                let fields = fields?;
+                let (own, run) = fields.split_at(3);
+                let run = Memory::from_masked_fields(run);
+                Moment::from_fields(own, LastPaused::from_field(own[2])?, run)
+            }
+        }
+    }
+
+    fn from_fields(
+        own: &[&[u8]],
+        last_paused: LastPaused,
+        run: Option<Memory>,
+    ) -> Result<Moment, Broken> {
+        let slot = number(own[1]).and_then(|slot| usize::try_from(slot).ok());
+        Ok(Moment {
+            slots_path: path_from(own[0]),
+            slot: slot.ok_or(Broken::Damaged)?,
+            last_paused,
+            run: run.ok_or(Broken::Damaged)?,
+        })
     }
 
     pub fn memory_path(&self) -> PathBuf {
@@ -243,11 +299,11 @@ impl Moment {
 
     /// A paused run is the one to remember, until it has ended itself.
     pub fn remember_place(&mut self) {
-        let own = self.place();
-        self.last_paused = match self.run.is_paused() {
-            true => Some(own),
-            false => self.last_paused.take().filter(|place| *place != own),
-        };
+        let (place, own) = (self.place(), self.run.masks.own);
+        match self.run.is_paused() {
+            true => self.last_paused.remember(Paused { place, own }),
+            false => self.last_paused.forget(&place),
+        }
     }
 
     /// What is seen of the row once this has been saved.

@@ -5,9 +5,9 @@ use super::error::Error;
 use super::files::{self, Action, Lock};
 use super::journal::{journal_of, path_bytes, pending, slot_name, ImageMark, Memory, Moment};
 use super::known::{seen_of, Seen};
-use super::place::Place;
+use super::place::{LastPaused, Paused, Place};
 use super::settling::Locks;
-use phuyurik::{Row, State, Stop, RECORD, ROW, WORDS};
+use phuyurik::{Masks, Row, State, Stop, Words, RECORD, ROW, WORDS};
 use std::fs;
 use testing::Folder;
 
@@ -34,7 +34,7 @@ fn moment(folder: &Folder, row: &str, mark: u8) -> Moment {
     Moment {
         slots_path: folder.file("slots"),
         slot: SLOT,
-        last_paused: Some(place(folder)),
+        last_paused: paused(place(folder), Words::ALL),
         run: Memory {
             row_path: folder.file(row),
             serial: u64::from(mark),
@@ -44,8 +44,15 @@ fn moment(folder: &Folder, row: &str, mark: u8) -> Moment {
             burnt: (1 << (5 * mark)) - 1,
             told: false,
             bytes: vec![mark; 5],
+            masks: Masks::default(),
         },
     }
+}
+
+fn paused(place: Place, own: Words) -> LastPaused {
+    let mut last_paused = LastPaused::default();
+    last_paused.remember(Paused { place, own });
+    last_paused
 }
 
 fn place(folder: &Folder) -> Place {
@@ -57,7 +64,7 @@ fn place(folder: &Folder) -> Place {
 
 fn stopped(mut moment: Moment) -> Moment {
     moment.run.record[136] = Stop::Ecall.number();
-    moment.last_paused = None;
+    moment.last_paused = LastPaused::default();
     moment
 }
 
@@ -185,6 +192,114 @@ fn a_recovery_cut_short_anywhere_is_done_again() {
             assert_eq!(found(&new).as_ref(), Some(&new), "{done} {done_again}");
         }
     }
+}
+
+/// Two runs on one row, each with words of its own, in slots 1 and 2: the first as it was saved and as it
+/// is to be saved next, and the other.
+fn in_turns(folder: &Folder) -> [Moment; 3] {
+    let own = |first, last| Masks {
+        own: Words::span(first, last),
+        other: Words::NONE,
+    };
+    let mut runs = [3, 5, 4].map(|mark| moment(folder, "row", mark));
+    for run in &mut runs[..2] {
+        run.run.masks = own(0, 14);
+    }
+    runs[2].slot = SLOT + 1;
+    runs[2].run.masks = own(15, 63);
+    // The first was saved, then the other, now the first again.
+    let mut last_paused = LastPaused::default();
+    for at in [0, 2, 1] {
+        runs[at].last_paused = last_paused.clone();
+        runs[at].remember_place();
+        last_paused = runs[at].last_paused.clone();
+        runs[at].run.serial = [1, 3, 2][at];
+    }
+    runs
+}
+
+/// Whichever of two paused runs was cut short in its save, the other's next call finds the files as they
+/// were, or as that save leaves them, and its own untouched.
+#[test]
+fn a_save_cut_short_anywhere_is_settled_by_the_other_run_of_the_row() {
+    let folder = Folder::new();
+    let [first, next, other] = in_turns(&folder);
+    assert_eq!(next.seen().last_paused.iter().count(), 2);
+    let begin = || {
+        prepare(&folder, None);
+        files::carry_out(&first.saving()).expect("done");
+        files::carry_out(&other.saving()).expect("done");
+    };
+    begin();
+    let before = without_tmp(&folder);
+    files::carry_out(&next.saving()).expect("done");
+    let after = without_tmp(&folder);
+    for (done, torn) in (0..=9).flat_map(|done| TEARS.map(|torn| (done, torn))) {
+        begin();
+        cut_short(&next.saving(), done, torn);
+        let settled = settle(&other).expect("whole");
+        assert_eq!(settled, usize::from((2..9).contains(&done)));
+        let expected = if done < 2 { &before } else { &after };
+        assert_eq!(&without_tmp(&folder), expected, "{done} {torn:?}");
+    }
+}
+
+fn without_tmp(folder: &Folder) -> Vec<(std::ffi::OsString, Vec<u8>)> {
+    let mut all = all_files(folder);
+    all.retain(|(name, _)| !name.as_encoded_bytes().ends_with(b".tmp"));
+    all
+}
+
+/// Moments with masks come back as they were, and those without are of the old kinds.
+#[test]
+fn moments_with_and_without_masks_come_back() {
+    let folder = Folder::new();
+    let [first, next, other] = in_turns(&folder);
+    // Also an end after which no run, or only one that has all words, is remembered.
+    let (mut ended, mut beside) = (stopped(first.clone()), stopped(next.clone()));
+    beside.last_paused = paused(other_place(&folder), Words::ALL);
+    let mut plain = moment(&folder, "row", 3);
+    ended.run.told = true;
+    for moment in [&first, &next, &other, &ended, &beside] {
+        is_kept(&folder, moment, [b"phuyJRN3", b"phuyMEM3"]);
+    }
+    is_kept(&folder, &plain, [b"phuyJRN2", b"phuyMEM2"]);
+    // The run has none, but one that is remembered has.
+    plain.last_paused = other.last_paused.clone();
+    is_kept(&folder, &plain, [b"phuyJRN3", b"phuyMEM2"]);
+}
+
+fn is_kept(folder: &Folder, moment: &Moment, kinds: [&[u8; 8]; 2]) {
+    prepare(folder, None);
+    let (journal, memory) = (moment.to_journal(), moment.run.to_bytes());
+    assert_eq!([&journal[..8], &memory[..8]], [&kinds[0][..], kinds[1]]);
+    folder.write("row.journal", &journal);
+    assert_eq!(
+        pending(&folder.file("row")).expect("whole").as_ref(),
+        Some(moment)
+    );
+    fs::remove_file(folder.file("row.journal")).expect("removed");
+    fs::write(moment.memory_path(), &memory).expect("written");
+    let read = Memory::read(&moment.slots_path, moment.slot).expect("whole");
+    assert_eq!(read.as_ref(), Some(&moment.run));
+    let seen = moment.seen();
+    files::carry_out(&seen.writing(&moment.run.row_path)).expect("written");
+    assert_eq!(Seen::read(&moment.run.row_path).expect("whole"), seen);
+}
+
+/// The library refuses masks that share a word, so no run was saved with them.
+#[test]
+fn a_saved_run_whose_masks_share_a_word_is_damaged() {
+    let folder = Folder::new();
+    let [mut first, ..] = in_turns(&folder);
+    first.run.masks.other = first.run.masks.own;
+    prepare(&folder, None);
+    fs::write(first.memory_path(), first.run.to_bytes()).expect("written");
+    let error = Memory::read(&first.slots_path, SLOT).expect_err("damaged");
+    assert_eq!(error.exit_code(), 5);
+    folder.write("row.journal", &first.to_journal());
+    let error = pending(&folder.file("row")).expect_err("damaged");
+    assert_eq!(error.exit_code(), 5);
 }
 
 /// The name and the bytes of every file but the locks.
@@ -350,24 +465,29 @@ fn only_the_run_that_ended_is_marked_as_told() {
 #[test]
 fn a_paused_run_is_remembered_until_it_has_ended_itself() {
     let folder = Folder::new();
-    let own = Some(place(&folder));
-    let elsewhere = Some(Place {
-        slot: SLOT + 1,
-        ..place(&folder)
-    });
-    let remembered = |mut moment: Moment, before: &Option<Place>| {
+    let none = LastPaused::default();
+    let own = paused(place(&folder), Words::ALL);
+    let elsewhere = paused(other_place(&folder), Words::ALL);
+    let remembered = |mut moment: Moment, before: &LastPaused| {
         moment.last_paused = before.clone();
         moment.remember_place();
         moment.seen().last_paused
     };
-    let paused = moment(&folder, "row", 3);
-    let ended = stopped(paused.clone());
-    for before in [&None, &own, &elsewhere] {
-        assert_eq!(remembered(paused.clone(), before), own);
+    let run = moment(&folder, "row", 3);
+    let ended = stopped(run.clone());
+    for before in [&none, &own, &elsewhere] {
+        assert_eq!(remembered(run.clone(), before), own);
     }
-    assert_eq!(remembered(ended.clone(), &own), None);
-    assert_eq!(remembered(ended.clone(), &None), None);
+    assert_eq!(remembered(ended.clone(), &own), none);
+    assert_eq!(remembered(ended.clone(), &none), none);
     assert_eq!(remembered(ended, &elsewhere), elsewhere);
+}
+
+fn other_place(folder: &Folder) -> Place {
+    Place {
+        slot: SLOT + 1,
+        ..place(folder)
+    }
 }
 
 #[test]

@@ -1,7 +1,7 @@
 //! What is known of a row: words that were burnt once, and so are burnt for ever.
 use super::error::{Error, Kind};
 use super::files::{self, Action};
-use super::place::Place;
+use super::place::LastPaused;
 use super::sealed::{seal, unseal, Broken};
 use super::view::View;
 use phuyurik::{Row, Word};
@@ -9,6 +9,8 @@ use std::collections::BTreeSet;
 use std::path::{Path, PathBuf};
 
 const SEEN: &[u8; 8] = b"phuySEE1";
+/// Where a run with words of its own is remembered.
+const SEEN_MASKED: &[u8; 8] = b"phuySEE2";
 
 /// Words known to be burnt, with their values. One word may be known with two values, of two parts
 /// that stood at one path: then no row has both.
@@ -121,9 +123,9 @@ fn mask_of(row: &Row, is_in: impl Fn(&usize) -> bool) -> u64 {
 pub struct Seen {
     pub serial: u64,
     pub row: Row,
-    /// Where the run is that was last saved as paused, unless it has ended or was given up since. A
-    /// run that is started elsewhere would burn its words.
-    pub last_paused: Option<Place>,
+    /// Where the runs are that were last saved as paused, unless they have ended or were given up
+    /// since. A run that is started elsewhere would burn their words.
+    pub last_paused: LastPaused,
 }
 
 pub fn seen_of(row_path: &Path) -> PathBuf {
@@ -146,18 +148,28 @@ impl Seen {
     }
 
     fn from_bytes(bytes: &[u8]) -> Result<Seen, Broken> {
-        let [serial, row, last_paused] = unseal(SEEN, bytes)?;
+        let ([serial, row, _], last_paused) = match unseal(SEEN_MASKED, bytes) {
+            Err(Broken::Version) => {
+                let fields: [&[u8]; 3] = unseal(SEEN, bytes)?;
+                (fields, LastPaused::from_plain_field(fields[2])?)
+            }
+            fields => (fields?, LastPaused::from_field(fields?[2])?),
+        };
         Ok(Seen {
             serial: u64::from_le_bytes(serial.try_into().or(Err(Broken::Damaged))?),
             row: row.try_into().or(Err(Broken::Damaged))?,
-            last_paused: Place::from_field(last_paused)?,
+            last_paused,
         })
     }
 
+    /// Without masks it is what earlier versions wrote, and they can read it.
     pub fn to_bytes(&self) -> Vec<u8> {
-        let last_paused = Place::to_field(self.last_paused.as_ref());
+        let (kind, last_paused) = match self.last_paused.is_plain() {
+            true => (SEEN, self.last_paused.to_plain_field()),
+            false => (SEEN_MASKED, self.last_paused.to_field()),
+        };
         let serial = self.serial.to_le_bytes();
-        seal(SEEN, &[&serial, self.row.as_ref(), &last_paused])
+        seal(kind, &[&serial, self.row.as_ref(), &last_paused])
     }
 
     /// The steps that write it.
@@ -176,7 +188,7 @@ pub struct RowKnown {
     /// The highest number of a save that is known of.
     pub serial: u64,
     /// What `ROW.seen` remembers of paused runs.
-    pub last_paused: Option<Place>,
+    pub last_paused: LastPaused,
     /// `ROW.seen` is damaged; that the row is right was said by whoever accepts it.
     pub seen_is_damaged: bool,
     /// What could not be looked at.

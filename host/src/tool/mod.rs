@@ -16,6 +16,7 @@ mod journal;
 mod journal_tests;
 mod known;
 mod listing;
+mod masks;
 mod place;
 mod row_file;
 mod run;
@@ -81,7 +82,7 @@ fn answer(words: Vec<OsString>) -> Result<Answer, Error> {
         Command::List { image, until } => listing::list(&image, until).map(Answer::good),
         Command::Text { image, until } => listing::text(&image, until).map(Answer::good),
         Command::Assemble(order) => assemble::assemble(&order).map(Answer::good),
-        Command::Row(file) => show::row(&file).map(Answer::good),
+        Command::Row(file, masks) => show::row(&file, masks).map(Answer::good),
         Command::Slot(file, k) => show::slot(&file, k).map(Answer::good),
         Command::Status(folder) => status::status(&folder).map(Answer::good),
         Command::Forget { slots, k, yes } => ways::forget(&slots, k, yes),

@@ -7,14 +7,15 @@ use super::going::{Burnt, Going};
 use super::image::{self, Image};
 use super::journal::{self, ImageMark, Memory, Moment, MOST_SLOTS};
 use super::known::{self, Known, RowKnown, Seen};
-use super::place::{self, Place};
+use super::masks;
+use super::place::{self, Paused, Place};
 use super::row_file;
 use super::settling::Locks;
 use super::slot::{Owner, Part, Slot};
 use super::view::View;
 use super::watch::Watch;
 use super::ways::typed;
-use phuyurik::{Argument, Board, Refusal, Row, Slots, State, Stop, RECORD};
+use phuyurik::{Argument, Board, Masks, Refusal, Row, Slots, State, Stop, Words, RECORD};
 use std::collections::BTreeSet;
 use std::path::{Path, PathBuf};
 
@@ -66,12 +67,29 @@ fn settled_text(save: &Moment, dry_run: bool) -> String {
     }
 }
 
+/// What starts a run beside this one, although they share a word: beside masks with masks.
+fn restart_beside(run: &Paused) -> &'static str {
+    match run.own {
+        Words::ALL => "--restart",
+        _ => "--restart --own WORDS",
+    }
+}
+
 impl Job<'_> {
     fn slot(&self) -> Slot<'_> {
         Slot {
             slots_path: &self.slots_path,
             k: self.order.slot,
         }
+    }
+
+    fn place(&self) -> Place {
+        Place::of(&self.slots_path, self.order.slot)
+    }
+
+    /// The masks of a start. A run that is carried on keeps those that it was started with.
+    fn masks(&self) -> Masks {
+        self.order.masks.unwrap_or_default()
     }
 
     /// No file that a run writes may be another one that it needs.
@@ -106,7 +124,23 @@ impl Job<'_> {
         }
         match files::read_if_there(&journal::journal_of(&self.row_path), 0)? {
             Some(_) => Ok(()),
-            None => self.slot_is_likely(self.row(&View::default())?.is_none()),
+            None => {
+                let row = self.row(&View::default())?;
+                self.masks_are_likely(row.as_deref())?;
+                self.slot_is_likely(row.is_none())
+            }
+        }
+    }
+
+    /// Masks that share a word are refused in the library's order, and whatever the slot holds.
+    fn masks_are_likely(&self, row: Option<&[u8]>) -> Result<(), Error> {
+        match self.masks().shared().is_empty() {
+            true => Ok(()),
+            false => {
+                let blank = Row::default();
+                let row = row.unwrap_or(blank.as_ref());
+                self.checked(row, &[]).map(drop)
+            }
         }
     }
 
@@ -118,7 +152,7 @@ impl Job<'_> {
             Ok(_free) if memory.symlink_metadata().is_err() => {
                 let view = View::default();
                 self.slots(&view)?;
-                self.may_go(&view, true, is_new)
+                self.may_go(&view, None, is_new)
             }
             _ => Ok(()),
         }
@@ -182,11 +216,12 @@ impl Job<'_> {
     fn checked(&self, row: &[u8], slots: &[u8]) -> Result<State, Error> {
         let (mut memory, mut copy) = (self.image.memory.clone(), row.to_vec());
         let mut lent = Slots::new(slots.to_vec());
-        Board::new(&mut memory, &mut copy)
+        Board::shared(&mut memory, &mut copy, self.masks())
             .run_slot(&mut lent, self.order.slot, 0)
             .and_then(|_| lent.read(self.order.slot))
             .map_err(|error| match error.refusal().map(Refusal::argument) {
                 Some(Argument::Row) => row_file::refused(&self.row_path, row, error),
+                Some(Argument::Masks) => masks::refused(self.masks()),
                 Some(Argument::State) => self.slot().refused(slots, error),
                 _ => self.failed(error),
             })
@@ -212,9 +247,13 @@ impl Job<'_> {
             part: &part,
             image: ImageMark::of(&self.image.bytes),
             memory: self.order.memory,
+            masks: self.order.masks,
         };
         let saved = self.slot().to_resume(content, self.order.mode, &owner)?;
-        self.may_go(view, saved.is_none(), is_new)?;
+        self.may_go(view, saved.as_ref(), is_new)?;
+        if saved.is_none() {
+            self.tell_of_masks(view, watch)?;
+        }
         let going = self.going(saved, part.row, view, watch)?;
         if is_new {
             let row = self.row_path.display();
@@ -223,40 +262,147 @@ impl Job<'_> {
         Ok(going)
     }
 
-    /// A paused run waits for its own row, and for that as the run left it.
-    fn may_go(&self, view: &View, is_start: bool, is_new: bool) -> Result<(), Error> {
+    /// A paused run waits for its own row, and for that as the run left it. One that has no word of
+    /// this one's is in no one's way: the two take turns.
+    fn may_go(&self, view: &View, saved: Option<&Memory>, is_new: bool) -> Result<(), Error> {
         let paused = place::of_paused(view, &self.row_path, &self.slots_path)?;
-        let is_other =
-            |place: &&Place| place.slot != self.order.slot || place.slots_path != self.slots_path;
-        let other = paused.iter().find(is_other);
-        // Also this very slot, where all of its slots file is gone: its folder is not mounted, perhaps.
-        let all_gone = view.slots(&self.slots_path)?.is_none();
-        let is_away = |place: &&Place| place.is_away(view) && (is_other(place) || all_gone);
-        let away = paused.iter().find(is_away);
-        let last = view.seen(&self.row_path).unwrap_or_default().last_paused;
-        let later = last.filter(|place| is_other(&place) && place.has_paused(view, &self.row_path));
-        match (paused.first(), other) {
-            (Some(place), _) if is_new && !self.order.accept_row => Err(self.awaited(place)),
-            _ if self.order.mode != Mode::Either => Ok(()),
-            _ if is_start && away.is_some() => away.map_or(Ok(()), |at| Err(self.paused_away(at))),
-            (_, Some(other)) if is_start => Err(self.paused_elsewhere(other)),
-            _ if !is_start => later.map_or(Ok(()), |place| Err(self.saved_later(&place))),
+        if let Some(run) = paused.first().filter(|_| is_new && !self.order.accept_row) {
+            return Err(self.awaited(&run.place));
+        }
+        match (saved, self.order.mode) {
+            (Some(saved), Mode::Either) => self.is_saved_last(view, saved),
+            (None, Mode::Either) => {
+                self.may_start(view, &paused)?;
+                self.masks_are_named(view, &paused)
+            }
+            (None, Mode::Restart) => self.masks_are_named(view, &paused),
             _ => Ok(()),
         }
     }
 
-    /// A folder that is not mounted, or a file that was moved: what was paused may come back.
-    fn paused_away(&self, place: &Place) -> Error {
+    /// A start has all words if it names none. Where recipes with words of their own are at work that
+    /// was forgotten, most likely, and has to be said: in the slot of one, whatever its row was, and on
+    /// the row of one.
+    fn masks_are_named(&self, view: &View, paused: &[Paused]) -> Result<(), Error> {
+        if self.order.masks.is_some() {
+            return Ok(());
+        }
+        let k = self.order.slot;
+        let slots = view.slots_with_memory(&self.slots_path)?;
+        let here = slots.iter().filter(|slot| **slot == k);
+        for slot in here.chain(slots.iter().filter(|slot| **slot != k)) {
+            let there = view.memory(&self.slots_path, *slot).ok().flatten();
+            let is_of = |run: &Memory| *slot == k || run.row_path == self.row_path;
+            if let Some(run) = there.filter(|run| run.is_masked() && is_of(run)) {
+                return Err(self.unnamed(&Place::of(&self.slots_path, *slot), run.masks));
+            }
+        }
+        match paused.iter().find(|run| run.own != Words::ALL) {
+            Some(Paused { place, own }) => {
+                let (own, other) = (*own, Words::NONE);
+                Err(self.unnamed(place, Masks { own, other }))
+            }
+            None => Ok(()),
+        }
+    }
+
+    fn unnamed(&self, place: &Place, masks: Masks) -> Error {
         let (k, slots) = (place.slot, place.slots_path.display());
+        let masks = masks::typed(masks);
+        let why = format!(
+            "the run in slot {k} of {slots} has {masks}: name the words of this one, too (--own all, \
+             if it is to have all of them)"
+        );
+        Error::other_run(&self.row_path, why)
+    }
+
+    /// Whether this is another run than that in the slot, and one that has a word of these.
+    fn is_in_the_way(&self, run: &Paused, own: Words) -> bool {
+        run.place != self.place() && !masks::are_apart(run.own, own)
+    }
+
+    fn may_start(&self, view: &View, paused: &[Paused]) -> Result<(), Error> {
+        let is_in_the_way = |run: &&Paused| self.is_in_the_way(run, self.masks().own);
+        // Also this very slot, where all of its slots file is gone: its folder is not mounted, perhaps.
+        let all_gone = view.slots(&self.slots_path)?.is_none();
+        let is_away = |run: &&Paused| {
+            let has_gone = all_gone && run.place.slots_path == self.slots_path;
+            run.place.is_away(view) && (has_gone || is_in_the_way(run))
+        };
+        if let Some(away) = paused.iter().find(is_away) {
+            return Err(self.paused_away(away));
+        }
+        match paused.iter().find(is_in_the_way) {
+            Some(run) => Err(self.paused_elsewhere(run)),
+            None => Ok(()),
+        }
+    }
+
+    /// The words of a start that names some: a mask in hexadecimal is easily meant as a list. And whether
+    /// they are those that a paused run leaves to it: both go on all the same.
+    fn tell_of_masks(&self, view: &View, watch: &mut dyn Watch) -> Result<(), Error> {
+        let (masks, k) = (self.masks(), self.order.slot);
+        if self.order.masks.is_some() {
+            let masks = masks::typed(masks);
+            watch.note(&format!("the run in slot {k} starts with {masks}"));
+        }
+        for run in place::of_paused(view, &self.row_path, &self.slots_path)? {
+            if run.place != self.place() {
+                self.tell_of_other(&run, view, watch);
+            }
+        }
+        Ok(())
+    }
+
+    fn tell_of_other(&self, run: &Paused, view: &View, watch: &mut dyn Watch) {
+        let Place { slots_path, slot } = &run.place;
+        let there = view.memory(slots_path, *slot).ok().flatten();
+        let (own, other) = (run.own, Words::NONE);
+        let (masks, other) = (
+            self.masks(),
+            there.map_or(Masks { own, other }, |run| run.masks),
+        );
+        let shared = masks.own & other.own;
+        let how = match shared.is_empty() {
+            _ if masks == other && masks == Masks::default() => return,
+            true if masks::agree(masks, other) => return,
+            true => "they do not agree whose each word is".to_string(),
+            false => format!("both have {}", masks::named(shared)),
+        };
+        let (slots, masks, other) = (
+            slots_path.display(),
+            masks::typed(masks),
+            masks::typed(other),
+        );
+        watch.note(&format!(
+            "the run that is paused in slot {slot} of {slots} has {other}, and this one {masks}: {how}"
+        ));
+    }
+
+    /// Of two runs on one row that are paused and have a word in common, the default carries on the one
+    /// that was saved last: the other may be an old copy of it.
+    fn is_saved_last(&self, view: &View, saved: &Memory) -> Result<(), Error> {
+        let last = view.seen(&self.row_path).unwrap_or_default().last_paused;
+        let is_in_the_way = |run: &&Paused| {
+            let is_paused = run.place.paused(view, &self.row_path).is_some();
+            is_paused && self.is_in_the_way(run, saved.masks.own)
+        };
+        let since = last.iter().take_while(|run| run.place != self.place());
+        let later = since.into_iter().find(is_in_the_way);
+        later.map_or(Ok(()), |run| Err(self.saved_later(&run.place)))
+    }
+
+    /// A folder that is not mounted, or a file that was moved: what was paused may come back.
+    fn paused_away(&self, run: &Paused) -> Error {
+        let (k, slots) = (run.place.slot, run.place.slots_path.display());
+        let restart = restart_beside(run);
         let why = format!(
             "a run on it was paused in slot {k} of {slots}, which cannot be read now: bring it back; \
-             --restart starts anew all the same"
+             {restart} starts anew all the same"
         );
         Error::missing(&self.row_path, why)
     }
 
-    /// Of two runs on one row that are paused, the default carries on the one that was saved last:
-    /// the other may be an old copy of it.
     fn saved_later(&self, place: &Place) -> Error {
         let (k, slots) = (place.slot, place.slots_path.display());
         let why = format!(
@@ -277,12 +423,20 @@ impl Job<'_> {
 
     /// Most likely the slot or the slots file was mistyped. A start would burn the words of the paused
     /// run, which could then never come to its proper end.
-    fn paused_elsewhere(&self, place: &Place) -> Error {
-        let (k, slots) = (place.slot, place.slots_path.display());
-        let command = typed::run(&self.row_path, &place.slots_path, k);
+    fn paused_elsewhere(&self, run: &Paused) -> Error {
+        let (k, slots) = (run.place.slot, run.place.slots_path.display());
+        let command = typed::run(&self.row_path, &run.place.slots_path, k);
+        let restart = restart_beside(run);
+        let (whose, turns) = match run.own {
+            Words::ALL => (String::new(), ""),
+            own => (
+                format!(", with its own {},", masks::named(own)),
+                " with --own of other words this one takes turns with it;",
+            ),
+        };
         let why = format!(
-            "a run on it is paused in slot {k} of {slots}, and can be carried on there ({command}); \
-             --restart starts anew all the same"
+            "a run on it{whose} is paused in slot {k} of {slots}, and can be carried on there \
+             ({command});{turns} {restart} starts anew all the same"
         );
         Error::other_run(&self.row_path, why)
     }
@@ -297,6 +451,7 @@ impl Job<'_> {
             burnt: 0,
             told: false,
             bytes: self.image.memory.clone(),
+            masks: self.masks(),
         }
     }
 
@@ -344,15 +499,23 @@ impl Job<'_> {
         if !self.order.accept_row || !lost.iter().any(is_its_own) {
             return Ok(());
         }
-        let why =
-            "of a run that has burnt words of the part that was here: a new one is trimmed from \
-                   the start (--accept-row --restart)";
+        let restart = masks::restart(run.masks);
+        let why = format!(
+            "of a run that has burnt words of the part that was here: a new one is trimmed from the \
+             start (--accept-row {restart})"
+        );
         Err(Error::other_run(&self.slot().memory_path(), why))
     }
 
-    /// Whoever resumes by name knows that he does.
+    /// Whoever resumes by name knows that he does; whose the words are he may not know.
     fn tell_of(&self, run: &Memory, watch: &mut dyn Watch) {
         let k = self.order.slot;
+        if run.is_paused() && run.is_masked() && self.order.masks.is_none() {
+            let masks = masks::typed(run.masks);
+            watch.note(&format!(
+                "the run in slot {k} goes on as it was started: {masks}"
+            ));
+        }
         match (self.order.mode, run.state()) {
             (Mode::Either, Ok(state)) if run.is_paused() => {
                 let count = state.count;

@@ -3,10 +3,11 @@ use super::args::{Mode, Order};
 use super::files::{self, Action};
 use super::journal::{journal_of, memory_of, ImageMark, Memory, Moment};
 use super::known::seen_of;
+use super::place::LastPaused;
 use super::run::run;
 use super::show::stop_code;
 use super::watch::Watch;
-use phuyurik::{Row, State, Stop, RECORD};
+use phuyurik::{Masks, Row, State, Stop, RECORD};
 use std::collections::BTreeMap;
 use std::fs;
 use std::path::{Path, PathBuf};
@@ -43,6 +44,7 @@ fn order(folder: &Folder, image: &[u8], budget: u64, piece: u64) -> Order {
         new: true,
         accept_row: false,
         dry_run: false,
+        masks: None,
     }
 }
 
@@ -63,11 +65,12 @@ fn saving(folder: &Folder, count: u64) -> Vec<Action> {
         burnt: 0,
         told: false,
         bytes: ENDLESS.to_vec(),
+        masks: Masks::default(),
     };
     let moment = Moment {
         slots_path: folder.file("slots"),
         slot: 0,
-        last_paused: None,
+        last_paused: LastPaused::default(),
         run,
     };
     moment.saving()
@@ -163,7 +166,7 @@ fn every_flip_and_every_cut_of_the_tools_own_files_is_5_and_changes_nothing() {
     let moment = Moment {
         slots_path: slots,
         slot: 0,
-        last_paused: None,
+        last_paused: LastPaused::default(),
         run: saved,
     };
     fs::write(journal_of(&row), moment.to_journal()).expect("written");

@@ -12,12 +12,16 @@ pub fn digest(bytes: &[u8]) -> u64 {
 pub fn seal(kind: &[u8; 8], fields: &[&[u8]]) -> Vec<u8> {
     let mut bytes = kind.to_vec();
     for field in fields {
-        let length = u32::try_from(field.len()).expect("a field is a path or at most a memory");
-        bytes.extend_from_slice(&length.to_le_bytes());
-        bytes.extend_from_slice(field);
+        bytes.extend(with_length(field));
     }
     bytes.extend_from_slice(&digest(&bytes).to_le_bytes());
     bytes
+}
+
+/// A field as it stands in a file.
+pub fn with_length(field: &[u8]) -> Vec<u8> {
+    let length = u32::try_from(field.len()).expect("a field is a path or at most a memory");
+    [&length.to_le_bytes(), field].concat()
 }
 
 /// Why bytes are not what `seal` makes of a kind.
@@ -38,20 +42,24 @@ pub fn unseal<'a, const N: usize>(
         return Err(Broken::Damaged);
     }
     match body.strip_prefix(kind) {
-        Some(rest) => fields(rest).ok_or(Broken::Damaged),
+        Some(rest) => match fields_of(rest) {
+            Some((fields, [])) => Ok(fields),
+            _ => Err(Broken::Damaged),
+        },
         None if body.len() >= 8 && body.starts_with(&kind[..7]) => Err(Broken::Version),
         None => Err(Broken::Damaged),
     }
 }
 
-fn fields<const N: usize>(mut rest: &[u8]) -> Option<[&[u8]; N]> {
+/// So many fields, and what follows them.
+pub fn fields_of<const N: usize>(mut rest: &[u8]) -> Option<([&[u8]; N], &[u8])> {
     let mut fields = [&[][..]; N];
     for field in &mut fields {
         let (length, after) = rest.split_first_chunk::<4>()?;
         let length = u32::from_le_bytes(*length) as usize;
         (*field, rest) = after.split_at_checked(length)?;
     }
-    rest.is_empty().then_some(fields)
+    Some((fields, rest))
 }
 
 #[cfg(test)]

@@ -4,13 +4,14 @@ use super::files;
 use super::going::Burnt;
 use super::journal::{self, Moment};
 use super::known::burnt_words;
+use super::masks;
 use super::row_file;
 use super::run::Outcome;
 use super::settling;
 use super::slot::Slot;
 use super::view::View;
 use super::watch;
-use phuyurik::{Row, Slots, State, Stop};
+use phuyurik::{Masks, Row, Slots, State, Stop, Words, WORDS};
 use std::fmt::Write;
 use std::path::{Path, PathBuf};
 
@@ -20,13 +21,15 @@ pub fn both(value: u32) -> String {
     format!("{value} (0x{value:08x})")
 }
 
-pub fn row(path: &Path) -> Result<String, Error> {
+pub fn row(path: &Path, masks: Option<Masks>) -> Result<String, Error> {
     let path = files::canonical(path)?;
     let view = with_pending([path.clone()], |_| true);
-    match view.row(&path)? {
-        Some(bytes) => Ok(row_text(&row_file::row_in(&path, &bytes)?)),
-        None => Err(Error::missing(&path, "missing")),
-    }
+    let Some(bytes) = view.row(&path)? else {
+        return Err(Error::missing(&path, "missing"));
+    };
+    let row = row_file::row_in(&path, &bytes)?;
+    masks.map_or(Ok(()), masks::are_accepted)?;
+    Ok(row_text(&row, masks))
 }
 
 /// The files as the next run will find them once it has settled what is pending beside these rows.
@@ -58,16 +61,53 @@ fn may_be_seen(save: Moment, view: &View) -> Result<Moment, Error> {
     save.may_be_settled(view).map(|_| save)
 }
 
-pub fn row_text(row: &Row) -> String {
+fn row_text(row: &Row, masks: Option<Masks>) -> String {
     let words = burnt_words(row);
+    let owners = masks.map(owners);
     let mut text = String::new();
     for (index, value) in &words {
         let address = WINDOW + 4 * *index as u32;
-        writeln!(text, "word {index:>2} at 0x{address:08x}: {}", both(*value))
+        let whose = |(_, words): &&(&str, Words)| words.contains(*index);
+        let owner = owners.iter().flatten().find(whose);
+        let owner = owner.map_or(String::new(), |(name, _)| format!(", {name}"));
+        let value = both(*value);
+        writeln!(text, "word {index:>2} at 0x{address:08x}: {value}{owner}")
             .expect("a string takes all");
     }
-    let blank = row.words().len() - words.len();
-    text + &format!("{} burnt, {blank} blank\n", words.len())
+    text += &format!("{}\n", burnt_and_blank(row, Words::ALL));
+    for (name, words) in owners
+        .iter()
+        .flatten()
+        .filter(|(_, words)| !words.is_empty())
+    {
+        let (mask, burnt) = (words.mask(), burnt_and_blank(row, *words));
+        text += &format!("{name}: {words} (0x{mask:016x}), {burnt}\n");
+    }
+    text
+}
+
+/// Whose the words are; each word is in one of these. Where no word was named as the other's, one that is
+/// not its own may be the other's or no one's.
+fn owners(masks: Masks) -> [(&'static str, Words); 3] {
+    let neither = Words::from(!(masks.own | masks.other).mask());
+    let neithers = match masks.other {
+        Words::NONE => "not its own",
+        _ => "no one's",
+    };
+    [
+        ("own", masks.own),
+        ("the other's", masks.other),
+        (neithers, neither),
+    ]
+}
+
+fn burnt_and_blank(row: &Row, words: Words) -> String {
+    let all = words.iter().count();
+    let burnt = burnt_words(row)
+        .iter()
+        .filter(|(k, _)| words.contains(*k))
+        .count();
+    format!("{burnt} burnt, {} blank", all - burnt)
 }
 
 pub fn slot(path: &Path, k: usize) -> Result<String, Error> {
@@ -101,10 +141,20 @@ pub fn slot_text(state: &State) -> String {
 pub fn stop_line(state: &State) -> String {
     match state.stop() {
         Ok(stop) if stop.has_address() => {
-            format!("{}, at 0x{:08x}", stop_text(stop), state.address())
+            let (stop, address, word) = (stop_text(stop), state.address(), word_of(state));
+            format!("{stop}, at 0x{address:08x}{word}")
         }
         Ok(stop) => stop_text(stop),
         Err(unknown) => format!("stop {}: {unknown}", unknown.number()),
+    }
+}
+
+/// The word that was not the run's own: who looks at masks counts words, and not bytes.
+fn word_of(state: &State) -> String {
+    let offset = state.address().wrapping_sub(WINDOW);
+    match state.stop() {
+        Ok(Stop::NotOwned) if offset < 4 * WORDS as u32 => format!(" (word {})", offset / 4),
+        _ => String::new(),
     }
 }
 

@@ -3,9 +3,10 @@ use super::args::Mode;
 use super::error::Error;
 use super::journal::{self, ImageMark, Memory};
 use super::known::Known;
+use super::masks;
 use super::view::View;
 use super::ways::record;
-use phuyurik::{Argument, Refusal, Row, State, Stop, RECORD};
+use phuyurik::{Argument, Masks, Refusal, Row, State, Stop, RECORD};
 use std::path::{Path, PathBuf};
 
 /// What a slot holds.
@@ -31,12 +32,13 @@ pub struct Part {
     pub is_new: bool,
 }
 
-/// Whose run may be carried on, with how long a memory, if that was said.
+/// Whose run may be carried on, with how long a memory and which masks, if that was said.
 pub struct Owner<'a> {
     pub row_path: &'a Path,
     pub part: &'a Part,
     pub image: ImageMark,
     pub memory: Option<usize>,
+    pub masks: Option<Masks>,
 }
 
 impl Slot<'_> {
@@ -118,16 +120,24 @@ impl Slot<'_> {
                 self.is_of(&run, owner)?;
                 Ok(Some(run))
             }
-            (Content::Ended(run), Mode::Either) if self.is_to_be_told(&run, owner) => Ok(Some(run)),
+            (Content::Ended(run), Mode::Either) if self.is_to_be_told(&run, owner) => {
+                self.is_of(&run, owner)?;
+                Ok(Some(run))
+            }
             _ => Ok(None),
         }
     }
 
     /// Whether this is an end that no one has heard of, on the part that is there: that of a part
-    /// which was exchanged says nothing of the new one.
+    /// which was exchanged says nothing of the new one. With other masks it is not passed over: it is
+    /// the same recipe, and they were mistyped, perhaps.
     fn is_to_be_told(&self, run: &Memory, owner: &Owner) -> bool {
+        let any_masks = Owner {
+            masks: None,
+            ..*owner
+        };
         let is_its_part = || Known::of(&run.row).lost_in(&owner.part.row).is_empty();
-        !run.told && !owner.part.is_new && self.is_of(run, owner).is_ok() && is_its_part()
+        !run.told && !owner.part.is_new && self.is_of(run, &any_masks).is_ok() && is_its_part()
     }
 
     /// A row that is not where the run knows it was moved or renamed, perhaps to the one given.
@@ -147,14 +157,20 @@ impl Slot<'_> {
     }
 
     fn is_of(&self, run: &Memory, owner: &Owner) -> Result<(), Error> {
+        let restart = masks::restart(run.masks);
         let why = if run.row_path != owner.row_path {
             format!("of a run on another row, {}", run.row_path.display())
         } else if run.image != owner.image {
-            "of a run of another image: name the one it began with (--restart gives it up)"
-                .to_string()
+            format!("of a run of another image: name the one it began with ({restart} gives it up)")
         } else if owner.memory.is_some_and(|length| length != run.bytes.len()) {
             let length = run.bytes.len();
-            format!("of a run with a memory of {length} bytes (--restart gives it up)")
+            format!("of a run with a memory of {length} bytes ({restart} gives it up)")
+        } else if owner.masks.is_some_and(|masks| masks != run.masks) {
+            let masks = match run.is_masked() {
+                true => format!("with {}: give it these, or none", masks::typed(run.masks)),
+                false => "without masks: leave --own out".to_string(),
+            };
+            format!("of a run {masks} (--restart gives it up)")
         } else {
             return Ok(());
         };

@@ -343,4 +343,87 @@ extern "C" {
         retired: *mut u64,
         word: *mut usize,
     ) -> u32;
+    /// One step of a recipe that owns the words of the mask `own` alone.
+    ///
+    /// ```
+    /// let (mut state, mut row, mut word) = (phuyurik_sys::State::default(), [0; 512], 99);
+    /// let mut memory = [0x83, 0xA0, 0xC0, 0x00]; // lw x1,12(x1)
+    /// state.x[0] = 0x8000_0000;
+    /// // SAFETY: what is lent has the sizes that are said, and nothing overlaps.
+    /// let mut step = |own, other| unsafe {
+    ///     let (memory, row) = (memory.as_mut_ptr(), row.as_mut_ptr());
+    ///     phuyurik_sys::phuyurik_step_masked(&mut state, memory, 4, row, 512, own, other, &mut word)
+    /// };
+    /// assert_eq!((step(0b1100, 0b0100), step(0b0100, 0b1000)), (16, 0));
+    /// assert_eq!((state.stop, state.address, state.count, word), (11, 0x8000_000C, 0, 99));
+    /// ```
+    pub fn phuyurik_step_masked(
+        state: *mut State,
+        mem: *mut u8,
+        mem_size: usize,
+        row: *mut u8,
+        row_size: usize,
+        own: u64,
+        other: u64,
+        word: *mut usize,
+    ) -> u32;
+    /// A run of such a recipe.
+    ///
+    /// ```
+    /// let (mut state, mut row) = (phuyurik_sys::State::default(), [0; 512]);
+    /// let mut memory = [0x83, 0xA0, 0xC0, 0x00]; // lw x1,12(x1)
+    /// state.x[0] = 0x8000_0000;
+    /// let (own, other, mut retired, mut word) = (0b1000, 0b0111, 0, 99);
+    /// // SAFETY: what is lent has the sizes that are said, and nothing overlaps.
+    /// unsafe {
+    ///     let (memory, row) = (memory.as_mut_ptr(), row.as_mut_ptr());
+    ///     let places = (&mut retired, &mut word);
+    ///     phuyurik_sys::phuyurik_run_masked(
+    ///         &mut state, memory, 4, row, 512, own, other, 9, places.0, places.1,
+    ///     );
+    /// }
+    /// assert_eq!((state.stop, state.x[0], retired, word), (4, 0, 1, 99));
+    /// ```
+    pub fn phuyurik_run_masked(
+        state: *mut State,
+        mem: *mut u8,
+        mem_size: usize,
+        row: *mut u8,
+        row_size: usize,
+        own: u64,
+        other: u64,
+        budget: u64,
+        retired: *mut u64,
+        word: *mut usize,
+    ) -> u32;
+    /// A run of such a recipe, of the state in a slot.
+    ///
+    /// ```
+    /// let (mut row, mut slots, mut retired, mut word) = ([0; 512], [0; 144], 99, 99);
+    /// let mut memory = [0x83, 0xA0, 0xC0, 0x00]; // lw x1,12(x1)
+    /// slots[7] = 0x80; // x1 is 0x80000000
+    /// // SAFETY: what is lent has the sizes that are said, and nothing overlaps.
+    /// unsafe {
+    ///     let (memory, row, slots) = (memory.as_mut_ptr(), row.as_mut_ptr(), slots.as_mut_ptr());
+    ///     let (own, other, places) = (0b0111, 0b1000, (&mut retired, &mut word));
+    ///     phuyurik_sys::phuyurik_run_slot_masked(
+    ///         memory, 4, row, 512, slots, 144, 0, own, other, 9, places.0, places.1,
+    ///     );
+    /// }
+    /// assert_eq!((slots[136], slots[140], slots[143], retired, word), (11, 12, 0x80, 0, 99));
+    /// ```
+    pub fn phuyurik_run_slot_masked(
+        mem: *mut u8,
+        mem_size: usize,
+        row: *mut u8,
+        row_size: usize,
+        slots: *mut u8,
+        slots_size: usize,
+        k: usize,
+        own: u64,
+        other: u64,
+        budget: u64,
+        retired: *mut u64,
+        word: *mut usize,
+    ) -> u32;
 }

@@ -11,8 +11,8 @@ extended-load-requires c κs =
     let b = c .before .before .before in
     placed-memory _ _ _ _ (place-is _ _ (b .before .load-width .ensures) (b .place-of .ensures) (c .before .place .given .1)) .1
 
-value-of-requires : tie.Need-value-of-requires
-value-of-requires c κs =
+load-of-row-requires : tie.Need-load-of-row-requires
+load-of-row-requires c κs =
     let b = c .before .before .before in
     let k = placed-fuse _ _ _ _ (place-is _ _ (b .before .load-width .ensures) (b .place-of .ensures) (c .before .place2 .given .1)) in
     search needs
@@ -27,7 +27,7 @@ returns-2 : tie.Need-returns-2
 unfolding loadedFrom
 returns-2 c =
     let b = c .before .before .before .before in
-    rw (place-is _ _ (b .before .load-width .ensures) (b .place-of .ensures) (c .before .before .place2 .given .1), c .value-of .ensures)
+    rw (place-is _ _ (b .before .load-width .ensures) (b .place-of .ensures) (c .before .before .place2 .given .1), c .load-of-row .ensures)
 
 returns-3 : tie.Need-returns-3
 unfolding loadedFrom
@@ -50,7 +50,7 @@ load-spec =
     (λ c. search needs)
     extended-load-requires
     (λ c. search needs)
-    value-of-requires
+    load-of-row-requires
     (λ c. search needs)
     (λ c. search needs)
     returns

@@ -5,7 +5,7 @@ use Rattle.resume.specs.Resuming.{Bench, bench}
 use Rattle.answers.specs.Outcomes.{Outcome, outcome}
 use Prim.Native.Nat.{ℕ}
 use mathlib.Core.Path.{ap}
-use Rattle.c_runs.proofs.Calls.{resume-called}
+use Rattle.run_calls.proofs.Calls.{resume-called}
 use Rattle.c_runs.proofs.phuyurik_step.Statement.{statement}
 use Rattle.c_runs.proofs.phuyurik_step.Tie as tie
 
@@ -14,7 +14,7 @@ returns c =
     let run = c .before .before .before .before .before .before .before in
     let at = run .before .before .before .before .before .before .args in
     ap (λ (o : Outcome ℕ ((ℕ × ℕ) × Bench)). outcome (o .answer) (o .lent .0 .1, o .lent .1))
-    (resume-called 1 0 (bench (board (at .mem .now) (at .row .now)) (at .state .now)) 0 (at .word .now) (c .answer .ensures) (run .run-slot .ensures))
+    (resume-called 1 0 (bench (board (at .mem .now) (at .row .now)) (at .state .now)) 0 (at .word .now) (c .answer .ensures) (run .run-slot-masked .ensures))
 
 pub phuyurik-step-spec : {M : Type 1} → statement M
 phuyurik-step-spec = tie.close (tie.spec _ _ (λ c. search needs) (λ c. search needs) returns)

@@ -1,43 +1,10 @@
--- A refusal decides; else it is the engine's step. Assumes nothing.
-use mathlib.Core.Path.{sym, _∙_}
+-- `machine::step` meets its contract: it is `step_masked` with the masks of a call without any. Assumes nothing.
 use borrow.Author.Needs.{needs}
-use Rattle.engine.specs.Steps.{ran}
-use Rattle.state.specs.States.{stateChecked}
-use Rattle.answers.proofs.Entries.{is-refused, is-given}
-use Rattle.boards.specs.Boards.{board}
-use Rattle.boards.proofs.Boards.{board-accepted}
-use Rattle.machine.specs.Entries.{noStep}
 use Rattle.machine.proofs.step.Statement.{statement}
 use Rattle.machine.proofs.step.Tie as tie
 
 returns : tie.Need-returns
-returns c = rw (c .none .ensures) (is-refused _ noStep _ (c .before .before .before .before .check .ensures) (c .before .before .r .given .1))
-
-run-steps-requires : tie.Need-run-steps-requires
-run-steps-requires c κs =
-    let k = c .before .before .before .before in
-    let at = k .before .before .before .before .before .args in
-    board-accepted (board (at .mem .now) (at .row .now)) (stateChecked (at .s)) (sym (k .check .ensures) ∙ c .before .before .enum-told .given .1) .0 .row .0
-
-returns-2 : tie.Need-returns-2
-unfolding ran
-returns-2 c =
-    let taken = c .before .before .before .before in
-    let passed = taken .before .before .before in
-    is-given noStep _ (passed .before .before .check .ensures) (passed .enum-told .given .1) (rw (← (taken .run-steps .ensures)))
+returns c = c .before .before .before .before .step-masked .ensures
 
 pub step-spec : {M : Type 1} → statement M
-step-spec =
-    tie.close
-    (tie.spec
-    _
-    (λ c. search needs)
-    _
-    (λ c. search needs)
-    (λ c. search needs)
-    returns
-    (λ c. search needs)
-    run-steps-requires
-    (λ c. search needs)
-    (λ c. search needs)
-    returns-2)
+step-spec = tie.close (tie.spec _ (λ c. search needs) (λ c. search needs) returns)

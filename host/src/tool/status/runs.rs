@@ -3,6 +3,7 @@ use super::super::error::{Error, Kind};
 use super::super::files;
 use super::super::journal::{self, Memory};
 use super::super::known::Known;
+use super::super::masks;
 use super::super::row_file;
 use super::super::show;
 use super::super::ways::{record, typed};
@@ -119,6 +120,9 @@ fn with_memory(
     let (what, row) = (record::text(&run.record), typed::name(&run.row_path));
     let burnt = show::words(run.burnt.count_ones() as usize);
     let mut report = Report::new(format!("slot {k}: {what}, row {row}, {burnt} burnt by it"));
+    if run.is_masked() {
+        report.line += &format!(", {}", masks::typed(run.masks));
+    }
     if let Some(there) = there.filter(|there| *there != Some(run.record)) {
         let why = format!("the slots file has something else: {}", text(there));
         report.is_wrong(why, [typed::mend(slots_path)]);

@@ -213,14 +213,13 @@ impl Place<'_> {
             row: words::with_words(&Row::default(), &words),
             ..self.with_new_row(run)
         };
-        let here = place::Place {
-            slots_path: self.slots_path.to_path_buf(),
-            slot: self.k,
-        };
+        let here = place::Place::of(self.slots_path, self.k);
         words::keep(plan, &View::default(), &known, |last| {
-            match run.is_paused() {
-                true => Some(here),
-                false => last,
+            if run.is_paused() {
+                last.remember(place::Paused {
+                    place: here,
+                    own: run.masks.own,
+                });
             }
         });
     }

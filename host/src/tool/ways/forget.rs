@@ -30,8 +30,8 @@ pub fn plan(slots_path: &Path, k: usize, held: &mut Held) -> Result<Plan, Error>
                 view.add(save.clone());
                 plan.step(Step::Settle(Box::new(save)));
             }
-            let is_other = |place: &Place| place.slot != k || place.slots_path != slots_path;
-            words::keep(&mut plan, &view, &run, |last| last.filter(is_other));
+            let place = Place::of(slots_path, k);
+            words::keep(&mut plan, &view, &run, |last| last.forget(&place));
             plan.set_aside(&memory_path);
         }
         Err(Error::Of(Kind::Damaged, ..)) => {

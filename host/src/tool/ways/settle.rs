@@ -147,6 +147,6 @@ fn keep(plan: &mut Plan, row_path: &Path, save: Moment) -> Result<(), Error> {
         }
     }
     // What is in the slot stays there, paused or not.
-    words::keep(plan, &View::default(), &run, |last_paused| last_paused);
+    words::keep(plan, &View::default(), &run, |_| {});
     Ok(())
 }

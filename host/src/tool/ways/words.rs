@@ -1,7 +1,7 @@
 //! Burnt words that a run or a save knows of, and that must not be forgotten with it.
 use super::super::journal::Memory;
 use super::super::known::{self, Known, Seen};
-use super::super::place::Place;
+use super::super::place::{LastPaused, Paused};
 use super::super::view::View;
 use super::plan::{has_folder, Plan};
 use super::typed;
@@ -29,12 +29,7 @@ pub fn with_words(row: &Row, words: &[(usize, u32)]) -> Row {
 /// Puts what a run knows of its row into `ROW.seen`, before the run is given up; where that cannot
 /// be, it is told. What is remembered there of paused runs becomes what the last argument makes of
 /// it.
-pub fn keep(
-    plan: &mut Plan,
-    view: &View,
-    run: &Memory,
-    last_paused: impl FnOnce(Option<Place>) -> Option<Place>,
-) {
+pub fn keep(plan: &mut Plan, view: &View, run: &Memory, last_paused: impl FnOnce(&mut LastPaused)) {
     let words = known::burnt_words(&run.row);
     let (row, told) = (typed::name(&run.row_path), text(&words));
     let seen = match view.seen(&run.row_path) {
@@ -48,7 +43,7 @@ pub fn keep(
         Ok(seen) => {
             let mut after = seen.clone();
             add(plan, run, &words, &mut after);
-            after.last_paused = last_paused(after.last_paused.take());
+            last_paused(&mut after.last_paused);
             say_place(plan, run, &seen, &after);
             if after != seen {
                 plan.act(after.writing(&run.row_path));
@@ -89,10 +84,11 @@ fn add(plan: &mut Plan, run: &Memory, words: &[(usize, u32)], seen: &mut Seen) {
 
 fn say_place(plan: &mut Plan, run: &Memory, before: &Seen, after: &Seen) {
     let name = typed::name(&known::seen_of(&run.row_path));
-    match &after.last_paused {
-        place if *place == before.last_paused => {}
-        Some(Place { slots_path, slot }) => {
-            let slots = typed::name(slots_path);
+    let is_new = |run: &&Paused| before.last_paused.iter().all(|known| known != *run);
+    match after.last_paused.iter().find(is_new) {
+        _ if after.last_paused == before.last_paused => {}
+        Some(Paused { place, .. }) => {
+            let (slot, slots) = (place.slot, typed::name(&place.slots_path));
             plan.say(format!(
                 "{name} is told that a run is paused in slot {slot} of {slots}"
             ));

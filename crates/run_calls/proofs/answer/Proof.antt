@@ -1,9 +1,9 @@
 -- `answer` meets its contract: the answer's case decides; 3 tells a word, and no other refusal does. Assumes nothing.
 use mathlib.Core.Path.{refl}
 use borrow.Author.Needs.{needs}
-use Rattle.c_runs.proofs.Calls.{word-told, no-word}
-use Rattle.c_runs.proofs.answer.Statement.{statement}
-use Rattle.c_runs.proofs.answer.Tie as tie
+use Rattle.run_calls.proofs.Calls.{word-told, no-word}
+use Rattle.run_calls.proofs.answer.Statement.{statement}
+use Rattle.run_calls.proofs.answer.Tie as tie
 
 returns : tie.Need-returns
 returns c =

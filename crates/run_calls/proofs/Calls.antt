@@ -1,5 +1,5 @@
 -- The word of a refusal in its place, and a call that `answer` made of what a run answered. Assumes nothing.
-use mathlib.Core.Path.{_≡_, refl, sym, ap, _∙_}
+use mathlib.Core.Path.{_≡_, sym, ap, _∙_}
 use mathlib.Core.Logic.{⊎-elim}
 use mathlib.Core.Option.{none}
 use Prim.Native.Nat.{ℕ}
@@ -11,7 +11,7 @@ use Rattle.answers.specs.declared.Refusal.{Refusal}
 use Rattle.resume.specs.declared.Resumed.{Resumed}
 use Rattle.resume.specs.declared.Resumed.the-variants as A
 use Rattle.resume.specs.Resuming.{Bench, resumeEntry}
-use Rattle.c_runs.specs.Runs.{answered, resumeCall}
+use Rattle.run_calls.specs.Runs.{answered, resumeCall}
 
 module _ (r : Refusal) (retired word : ℕ) {n : ℕ} (number : n ≡ numberOf r) where
   -- 3 tells a word
