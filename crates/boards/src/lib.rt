@@ -11,8 +11,7 @@ const LONGEST_MEMORY: usize = 65536;
 // The own mask of a call without masks.
 pub const ALL_WORDS: u64 = 18446744073709551615;
 
-// Refusals 1, 2, 3 and 16. Masks are numbers: bit k says whose word k is. They come one by one, not
-// in a struct, so that the compiler sees those that are constant.
+// Refusals 1, 2, 3 and 16. Bit k of a mask says whose word k is.
 pub fn check_start(mem: &[u8], row: &[u8], own: u64, other: u64) -> Check
     ensures { λ r. ⌜ r ≡ startChecked (board (now (mem .entry)) (now (row .entry))) (masks own other) Passed ⌝ }
 {

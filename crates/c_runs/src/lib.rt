@@ -1,6 +1,6 @@
 // The C interface, steps and runs. A state is lent as its record, a buffer of one slot, which is read, run and
-// written back. Without masks all words are the recipe's own: `resume::run_slot` says the same, but a
-// call more between the export and the loop has its buffers copied, and a step takes 2 to 4 in 100 longer.
+// written back. Without masks all words are the recipe's own: `resume::run_slot` says the same, but with a
+// call more between the export and the loop a step takes 2 to 4 in 100 longer.
 use boards::ALL_WORDS;
 use resume::run_slot_masked;
 use run_calls::answer;
