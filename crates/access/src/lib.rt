@@ -20,7 +20,7 @@ use stores::store_of;
 use word::sign_extend;
 
 // What an instruction does: a register gets a value and the next instruction is at pc, or the run stops.
-#[derive(Drop)]
+#[derive(Clone, Copy)]
 pub enum Effect {
     Next { rd: Reg, value: u32, pc: u32 },
     Halt(Cause),

@@ -7,7 +7,7 @@ ghost use Rattle.answers.specs.Refusals.{number_of, word_of};
 ghost use Rattle.answers.specs.Replies.{placed};
 ghost use Rattle.answers.specs.Stops.{stop_number};
 
-#[derive(Drop)]
+#[derive(Clone, Copy)]
 pub enum Refusal {
     MemoryTooLong,
     RowLength,
@@ -78,14 +78,14 @@ impl Refusal {
 }
 
 // What an entry's tests of its input come to.
-#[derive(Drop)]
+#[derive(Clone, Copy)]
 pub enum Check {
     Passed,
     Refused(Refusal),
 }
 
 // Why a run does not go on.
-#[derive(Drop)]
+#[derive(Clone, Copy)]
 pub enum Stop {
     Ecall,
     Ebreak,
@@ -121,7 +121,7 @@ impl Stop {
 }
 
 // A stop, and the address that belongs to it.
-#[derive(Drop)]
+#[derive(Clone, Copy)]
 pub struct Cause {
     pub stop: Stop,
     pub address: u32,

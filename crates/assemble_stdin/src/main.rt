@@ -1,5 +1,7 @@
 #![tactic(auto)]
 
-fn main() {
-    assembly_io::assemble_from(libc::STDIN_FILENO);
+use std::io;
+
+fn main(rt: HostRuntime) -> io::Result<()> {
+    assembly_io::assemble_from(&mut rt.reader(), &mut rt.stdout(), &mut rt.stderr())
 }

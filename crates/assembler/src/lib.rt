@@ -16,7 +16,7 @@ use coder::{Coded, code_line};
 use stores::{store2, store4};
 
 // The length of the output, or a refusal with its line and byte, both from 0.
-#[derive(Drop)]
+#[derive(Clone, Copy)]
 pub enum Assembled {
     Length(usize),
     Refused(Refusal, usize, usize),

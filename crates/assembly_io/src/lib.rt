@@ -1,5 +1,5 @@
-// The assembler program's reading and writing: a text from a descriptor, its output to standard
-// output, or a line to standard error.
+// The assembler program's reading and writing: a text from a reader, its output to one writer, or a
+// line to another.
 #![tactic(auto)]
 
 ghost use Rattle.std.specs.Prelude.{◌≡◌, ◌≤◌, length};
@@ -10,13 +10,14 @@ ghost use Rattle.assembly_io.specs.Saying.{complaint, saying};
 use answers::Refusal;
 use ascii::{put, put_all, put_decimal};
 use assembler::{Assembled, assemble};
-use libc::{STDERR_FILENO, STDOUT_FILENO};
+use reading::read_full;
+use std::io::{self, Read, Write};
 
 // The longest text, and more than any output of one: a line is longer than what it gives.
 const TEXT: usize = 65536;
 
 // So many bytes of the room are for standard output, or for standard error.
-#[derive(Drop)]
+#[derive(Clone, Copy)]
 pub enum Said {
     Output(usize),
     Error(usize),
@@ -45,16 +46,16 @@ pub fn say(text: &[u8], room: &mut [u8]) -> Said
 }
 
 // One byte more than a text may have tells those that are too long.
-pub fn assemble_from(fd: i32) {
+pub fn assemble_from<R: Read, W: Write, E: Write>(
+    input: &mut R,
+    output: &mut W,
+    errors: &mut E,
+) -> io::Result<()> {
     let mut text = [0u8; 65537];
-    let n = io::read_full(fd, &mut text);
-    let mut room = io::large_buffer();
+    let n = read_full(input, &mut text)?;
+    let mut room = [0u8; 65536];
     match say(&text[..n], &mut room) {
-        Said::Output(length) => {
-            io::write_all(STDOUT_FILENO, &room[..length]);
-        }
-        Said::Error(length) => {
-            io::write_all(STDERR_FILENO, &room[..length]);
-        }
+        Said::Output(length) => output.write_all(&room[..length]),
+        Said::Error(length) => errors.write_all(&room[..length]),
     }
 }

@@ -11,8 +11,7 @@ use assembler::Assembled;
 const NO_LINE: u32 = 13;
 
 // The codes of lines of text. Refuses with 10, 11 and 12, which tell the line and the byte, and with 13.
-#[unsafe(no_mangle)]
-pub extern "C" fn phuyurik_assemble(
+pub fn phuyurik_assemble(
     text: &[u8],
     room: &mut [u8],
     length: &mut usize,

@@ -13,16 +13,14 @@ use isa::Decoded;
 const VERSION: u32 = 0x000700;
 
 // The version of this interface.
-#[unsafe(no_mangle)]
-pub extern "C" fn phuyurik_version() -> u32
+pub fn phuyurik_version() -> u32
     ensures { result ≡ version }
 {
     VERSION
 }
 
 // The class of 32 bits in the chart. Never refuses.
-#[unsafe(no_mangle)]
-pub extern "C" fn phuyurik_chart(bits: u32, format: &mut u8) -> u32
+pub fn phuyurik_chart(bits: u32, format: &mut u8) -> u32
     ensures { outcome result format.new ≡ chart_call bits format.old }
 {
     *format = chart::chart(bits);
@@ -30,8 +28,7 @@ pub extern "C" fn phuyurik_chart(bits: u32, format: &mut u8) -> u32
 }
 
 // What 32 bits mean. Refuses with 7.
-#[unsafe(no_mangle)]
-pub extern "C" fn phuyurik_decode(bits: u32, inst: &mut [u32; 5]) -> u32
+pub fn phuyurik_decode(bits: u32, inst: &mut [u32; 5]) -> u32
     ensures { outcome result inst.new ≡ decode_call bits inst.old }
 {
     let Decoded::Legal(i) = decoder::decode(bits) else {
@@ -42,8 +39,7 @@ pub extern "C" fn phuyurik_decode(bits: u32, inst: &mut [u32; 5]) -> u32
 }
 
 // What 16 bits mean. Refuses with 7.
-#[unsafe(no_mangle)]
-pub extern "C" fn phuyurik_expand(bits: u16, inst: &mut [u32; 5]) -> u32
+pub fn phuyurik_expand(bits: u16, inst: &mut [u32; 5]) -> u32
     ensures { outcome result inst.new ≡ expand_call bits inst.old }
 {
     let Decoded::Legal(i) = expander::expand(bits) else {

@@ -11,8 +11,7 @@ use calls::inst_in;
 use isa::{Built, Encoded, Shortened};
 
 // The word of an instruction. Refuses with 8.
-#[unsafe(no_mangle)]
-pub extern "C" fn phuyurik_encode(inst: &[u32; 5], bits: &mut u32) -> u32
+pub fn phuyurik_encode(inst: &[u32; 5], bits: &mut u32) -> u32
     ensures { outcome result bits.new ≡ encode_call inst.now bits.old }
 {
     let Built::Instruction(i) = inst_in(inst) else {
@@ -26,8 +25,7 @@ pub extern "C" fn phuyurik_encode(inst: &[u32; 5], bits: &mut u32) -> u32
 }
 
 // The smallest halfword that stands for an instruction. Refuses with 8 and 9.
-#[unsafe(no_mangle)]
-pub extern "C" fn phuyurik_shorten(inst: &[u32; 5], bits: &mut u16) -> u32
+pub fn phuyurik_shorten(inst: &[u32; 5], bits: &mut u16) -> u32
     ensures { outcome result bits.new ≡ shorten_call inst.now bits.old }
 {
     let Built::Instruction(i) = inst_in(inst) else {

@@ -12,8 +12,7 @@ use resume::run_slot_masked;
 use run_calls::answer;
 
 // One step. Refuses with 1, 2, 3, 16, 5, 14 and 15.
-#[unsafe(no_mangle)]
-pub extern "C" fn phuyurik_step_masked(
+pub fn phuyurik_step_masked(
     state: &mut [u8; 144],
     mem: &mut [u8],
     row: &mut [u8],
@@ -32,8 +31,7 @@ pub extern "C" fn phuyurik_step_masked(
 }
 
 // A run of at most budget steps. Refuses with 1, 2, 3, 16, 5, 14 and 15.
-#[unsafe(no_mangle)]
-pub extern "C" fn phuyurik_run_masked(
+pub fn phuyurik_run_masked(
     state: &mut [u8; 144],
     mem: &mut [u8],
     row: &mut [u8],
@@ -54,8 +52,7 @@ pub extern "C" fn phuyurik_run_masked(
 
 // Reads slot k, runs it for at most budget steps and writes it back. Refuses with 1, 2, 3, 16, 4,
 // 5, 14 and 15.
-#[unsafe(no_mangle)]
-pub extern "C" fn phuyurik_run_slot_masked(
+pub fn phuyurik_run_slot_masked(
     mem: &mut [u8],
     row: &mut [u8],
     slots: &mut [u8],

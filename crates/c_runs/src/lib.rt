@@ -14,8 +14,7 @@ use resume::run_slot_masked;
 use run_calls::answer;
 
 // One step. Refuses with 1, 2, 3, 5, 14 and 15.
-#[unsafe(no_mangle)]
-pub extern "C" fn phuyurik_step(
+pub fn phuyurik_step(
     state: &mut [u8; 144],
     mem: &mut [u8],
     row: &mut [u8],
@@ -32,8 +31,7 @@ pub extern "C" fn phuyurik_step(
 }
 
 // A run of at most budget steps. Refuses with 1, 2, 3, 5, 14 and 15.
-#[unsafe(no_mangle)]
-pub extern "C" fn phuyurik_run(
+pub fn phuyurik_run(
     state: &mut [u8; 144],
     mem: &mut [u8],
     row: &mut [u8],
@@ -51,8 +49,7 @@ pub extern "C" fn phuyurik_run(
 }
 
 // Reads slot k, runs it for at most budget steps and writes it back. Refuses with 1 to 5, 14 and 15.
-#[unsafe(no_mangle)]
-pub extern "C" fn phuyurik_run_slot(
+pub fn phuyurik_run_slot(
     mem: &mut [u8],
     row: &mut [u8],
     slots: &mut [u8],

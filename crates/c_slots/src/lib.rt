@@ -9,8 +9,7 @@ use answers::{Check, Refusal};
 use records::write_record;
 
 // A state into slot k. Refuses with 4, 5, 14 and 15.
-#[unsafe(no_mangle)]
-pub extern "C" fn phuyurik_write_slot(state: &[u8; 144], slots: &mut [u8], k: usize) -> u32
+pub fn phuyurik_write_slot(state: &[u8; 144], slots: &mut [u8], k: usize) -> u32
     ensures { outcome result (tt, slots.new) ≡ write_call state.now k slots.old }
 {
     if !slots::is_slot(slots, k) {
@@ -27,8 +26,7 @@ pub extern "C" fn phuyurik_write_slot(state: &[u8; 144], slots: &mut [u8], k: us
 }
 
 // The state in slot k. Refuses with 4, 5, 14 and 15.
-#[unsafe(no_mangle)]
-pub extern "C" fn phuyurik_read_slot(state: &mut [u8; 144], slots: &[u8], k: usize) -> u32
+pub fn phuyurik_read_slot(state: &mut [u8; 144], slots: &[u8], k: usize) -> u32
     ensures { outcome result (state.new, tt) ≡ read_call k slots.now state.old }
 {
     let back = slots::read_slot(slots, k);

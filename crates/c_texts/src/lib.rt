@@ -26,24 +26,21 @@ fn answer(w: Written, length: &mut usize) -> u32
 }
 
 // The text of 32 bits. Refuses with 6 and 7.
-#[unsafe(no_mangle)]
-pub extern "C" fn phuyurik_text_of_word(bits: u32, room: &mut [u8], length: &mut usize) -> u32
+pub fn phuyurik_text_of_word(bits: u32, room: &mut [u8], length: &mut usize) -> u32
     ensures { outcome result (length.new, room.new) ≡ word_text_call bits room.old length.old }
 {
     answer(disassembler::text_of_word(bits, room), length)
 }
 
 // The text of 16 bits. Refuses with 6 and 7.
-#[unsafe(no_mangle)]
-pub extern "C" fn phuyurik_text_of_half(bits: u16, room: &mut [u8], length: &mut usize) -> u32
+pub fn phuyurik_text_of_half(bits: u16, room: &mut [u8], length: &mut usize) -> u32
     ensures { outcome result (length.new, room.new) ≡ half_text_call bits room.old length.old }
 {
     answer(disassembler::text_of_half(bits, room), length)
 }
 
 // The text of an instruction. Refuses with 6 and 8.
-#[unsafe(no_mangle)]
-pub extern "C" fn phuyurik_text_of(inst: &[u32; 5], room: &mut [u8], length: &mut usize) -> u32
+pub fn phuyurik_text_of(inst: &[u32; 5], room: &mut [u8], length: &mut usize) -> u32
     ensures { outcome result (length.new, room.new) ≡ inst_text_call inst.now room.old length.old }
 {
     if room.len() < 24 {
@@ -56,8 +53,7 @@ pub extern "C" fn phuyurik_text_of(inst: &[u32; 5], room: &mut [u8], length: &mu
 }
 
 // Whole lines of the listing from an address of the image on. Never refuses.
-#[unsafe(no_mangle)]
-pub extern "C" fn phuyurik_list(
+pub fn phuyurik_list(
     image: &[u8],
     from: usize,
     room: &mut [u8],

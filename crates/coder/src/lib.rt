@@ -15,7 +15,7 @@ use shortener::shorten;
 
 // The bits of a code, its size in bytes, 4 or 2, and the place after the line; or a refusal and its
 // byte.
-#[derive(Drop)]
+#[derive(Clone, Copy)]
 pub enum Coded {
     Code(u32, usize, usize),
     Refused(Refusal, usize),

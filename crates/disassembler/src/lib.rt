@@ -14,7 +14,7 @@ use ranges::in_range;
 use text::{put_short_text, put_text};
 
 // What the three entries answer: the text's length, or a refusal.
-#[derive(Drop)]
+#[derive(Clone, Copy)]
 pub enum Written {
     Length(usize),
     Refused(Refusal),

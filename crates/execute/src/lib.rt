@@ -16,7 +16,7 @@ use isa::{Cond, Inst, LoadOp, Reg, StoreOp};
 use state::read;
 
 // What an instruction asks for. Each but the last ends with the address of the next instruction.
-#[derive(Drop)]
+#[derive(Clone, Copy)]
 pub enum Act {
     // a register gets a value
     Sets(Reg, u32, u32),

@@ -13,7 +13,7 @@ use isa::{Decoded, Inst};
 use octets::{load2, load4};
 
 // An instruction and its length in bytes, or why there is none.
-#[derive(Drop)]
+#[derive(Clone, Copy)]
 pub enum Fetched {
     Instruction(Inst, u32),
     Fails(Cause),

@@ -98,10 +98,10 @@ all-below n j row a h = go (keeps_rules j row) refl
     go true e = refl
     go false e = let z : ◌≡◌ {A = ℕ} 0 1 = ap flag (sym (one_breaks n j row h e) ∙ a) in absurd (omega arith)
 
-pub all_keep : (n : ℕ) (row : List ℕ) → ((k : ℕ) → k < n → keeps_rules k row ≡ true) → all_keep n row ≡ true
+pub all_keep_lem : (n : ℕ) (row : List ℕ) → ((k : ℕ) → k < n → keeps_rules k row ≡ true) → all_keep n row ≡ true
 unfolding all_keep
-all_keep zero row h = refl
-all_keep (suc n) row h = rw (all_keep n row (λ k l. h k (omega arith))) (h n (omega arith))
+all_keep_lem zero row h = refl
+all_keep_lem (suc n) row h = rw (all_keep_lem n row (λ k l. h k (omega arith))) (h n (omega arith))
 
 -- a lowest word below 64 tells that one breaks the rules, and no lowest word that none does
 pub lowest-tells : (row : List ℕ) → all_keep 64 row ≡ leb 64 (lowest_bad 64 row)

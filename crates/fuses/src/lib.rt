@@ -11,7 +11,7 @@ use octets::{load1, load4};
 use stores::{store1, store4};
 
 // What comes of a store to a word.
-#[derive(Drop)]
+#[derive(Clone, Copy)]
 pub enum Stored {
     Done,
     AlreadyBurnt,

@@ -1,38 +1,38 @@
-// The listing program's reading and writing: an image from a descriptor, its listing to standard
-// output, a buffer at a time.
+// The listing program's reading and writing: an image from a reader, its listing to a writer, a
+// buffer at a time.
 #![tactic(auto)]
 
-ghost use Rattle.std.specs.Prelude.{◌≤◌, ◌<◌, length};
+ghost use Rattle.std.specs.Prelude.{◌≡◌, ◌≤◌, ◌<◌, IfOk, length};
 
-use libc::STDOUT_FILENO;
+use std::io::{self, Read, Write};
+
 use listing::list;
+use reading::read_full;
 
-// Writes a page of the listing and answers the address of the next one, or the end of the image
-// where the output takes no more.
-fn write_page(image: &[u8], from: usize, page: &mut [u8]) -> usize
+// Writes a page of the listing and answers the address of the next one.
+fn write_page<W: Write>(output: &mut W, image: &[u8], from: usize, page: &mut [u8]) -> io::Result<usize>
     requires from_in_bounds { from < length image.now }
     requires in_bounds { 38 ≤ length page.old }
-    ensures { from < result }
+    ensures moves { IfOk result (λ next. from < next) }
+    ensures same_length { length page.new ≡ length page.old }
 {
     let listed = list(image, from, page);
-    if io::write_all(STDOUT_FILENO, &page[..listed.length]) {
-        listed.next
-    } else {
-        image.len()
-    }
+    output.write_all(&page[..listed.length])?;
+    Ok(listed.next)
 }
 
-fn write_listing(image: &[u8]) {
-    let mut page = io::large_buffer();
+fn write_listing<W: Write>(output: &mut W, image: &[u8]) -> io::Result<()> {
+    let mut page = [0u8; 65536];
     let mut next = 0;
     while next < image.len() {
-        next = write_page(image, next, &mut page);
+        next = write_page(output, image, next, &mut page)?;
     }
+    Ok(())
 }
 
 // One byte more than an image may have tells those that are too long.
-pub fn list_from(fd: i32) {
+pub fn list_from<R: Read, W: Write>(input: &mut R, output: &mut W) -> io::Result<()> {
     let mut image = [0u8; 65537];
-    let n = io::read_full(fd, &mut image);
-    write_listing(&image[..n]);
+    let n = read_full(input, &mut image)?;
+    write_listing(output, &image[..n])
 }

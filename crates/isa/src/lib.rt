@@ -7,12 +7,12 @@ ghost use Rattle.word.specs.Bits.{low};
 ghost use Rattle.isa.specs.Registers.{reg, register};
 
 // A register, x0 to x31.
-#[derive(Drop)]
+#[derive(Clone, Copy)]
 pub struct Reg {
     number: u8,
 }
 
-#[derive(Drop)]
+#[derive(Clone, Copy)]
 pub enum Named {
     Register(Reg),
     OutOfRange,
@@ -63,7 +63,7 @@ impl Reg {
     }
 }
 
-#[derive(Drop)]
+#[derive(Clone, Copy)]
 pub enum Cond {
     Beq,
     Bne,
@@ -73,7 +73,7 @@ pub enum Cond {
     Bgeu,
 }
 
-#[derive(Drop)]
+#[derive(Clone, Copy)]
 pub enum LoadOp {
     Lb,
     Lh,
@@ -82,14 +82,14 @@ pub enum LoadOp {
     Lhu,
 }
 
-#[derive(Drop)]
+#[derive(Clone, Copy)]
 pub enum StoreOp {
     Sb,
     Sh,
     Sw,
 }
 
-#[derive(Drop)]
+#[derive(Clone, Copy)]
 pub enum ImmOp {
     Addi,
     Slti,
@@ -99,14 +99,14 @@ pub enum ImmOp {
     Andi,
 }
 
-#[derive(Drop)]
+#[derive(Clone, Copy)]
 pub enum ShiftOp {
     Slli,
     Srli,
     Srai,
 }
 
-#[derive(Drop)]
+#[derive(Clone, Copy)]
 pub enum ArithOp {
     Add,
     Sub,
@@ -120,7 +120,7 @@ pub enum ArithOp {
     And,
 }
 
-#[derive(Drop)]
+#[derive(Clone, Copy)]
 pub enum MulDivOp {
     Mul,
     Mulh,
@@ -135,7 +135,7 @@ pub enum MulDivOp {
 // An operation and the operands that its text shows, in the order rd, rs1, rs2, immediate.
 // Immediates and offsets are sign-extended to 32 bits; lui and auipc carry the 20-bit field, a
 // shift its amount and fence its 12-bit field.
-#[derive(Drop)]
+#[derive(Clone, Copy)]
 pub enum Inst {
     Lui(Reg, u32),
     Auipc(Reg, u32),
@@ -154,28 +154,28 @@ pub enum Inst {
 }
 
 // What five numbers mean: an operation's and its operands'.
-#[derive(Drop)]
+#[derive(Clone, Copy)]
 pub enum Built {
     Instruction(Inst),
     OutOfRange,
 }
 
 // What 32 or 16 bits mean.
-#[derive(Drop)]
+#[derive(Clone, Copy)]
 pub enum Decoded {
     Legal(Inst),
     Illegal,
 }
 
 // The word of an instruction.
-#[derive(Drop)]
+#[derive(Clone, Copy)]
 pub enum Encoded {
     Bits(u32),
     OutOfRange,
 }
 
 // The smallest halfword that stands for an instruction.
-#[derive(Drop)]
+#[derive(Clone, Copy)]
 pub enum Shortened {
     Half(u16),
     OutOfRange,
@@ -184,7 +184,7 @@ pub enum Shortened {
 
 // An instruction as numbers: its operation's place in the paper's order, and its operands, 0 for
 // each that it does not have.
-#[derive(Drop)]
+#[derive(Clone, Copy)]
 pub struct Parts {
     pub operation: u8,
     pub rd: u32,

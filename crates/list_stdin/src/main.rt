@@ -1,5 +1,7 @@
 #![tactic(auto)]
 
-fn main() {
-    image_io::list_from(libc::STDIN_FILENO);
+use std::io;
+
+fn main(rt: HostRuntime) -> io::Result<()> {
+    image_io::list_from(&mut rt.reader(), &mut io::writer(&rt))
 }

@@ -16,7 +16,7 @@ use octets::{load1, load2, load4};
 use text::{put_short_text, put_text};
 
 // What `list` answers: the length of what it wrote, and the address of the line that comes next.
-#[derive(Drop)]
+#[derive(Clone, Copy)]
 pub struct Listed {
     pub length: usize,
     pub next: usize,
@@ -29,7 +29,7 @@ const LINE: usize = 38;
 
 // What a line shows: an instruction of four bytes or of two, two bytes that are none, or a last odd
 // byte.
-#[derive(Drop)]
+#[derive(Clone, Copy)]
 pub enum Shown {
     Long(Inst),
     Short(Inst),
@@ -38,7 +38,7 @@ pub enum Shown {
 }
 
 // A line that has been written: the place after it, and the address after what it shows.
-#[derive(Drop)]
+#[derive(Clone, Copy)]
 struct Line {
     end: usize,
     next: usize,

@@ -13,14 +13,14 @@ use engine::run_steps;
 use state::State;
 
 // What `step` answers: the next state, or a refusal and no state.
-#[derive(Drop)]
+#[derive(Clone, Copy)]
 pub struct Stepped {
     pub check: Check,
     pub state: State,
 }
 
 // What `run` answers: the last state and the number retired, or a refusal and neither.
-#[derive(Drop)]
+#[derive(Clone, Copy)]
 pub struct Ran {
     pub check: Check,
     pub state: State,

@@ -6,7 +6,7 @@ ghost use Rattle.assembly.specs.Lines.{minus as Lines·minus};
 ghost use Rattle.numerals.specs.Numbers.{grown as Numbers·grown, digits_at, tidy as Numbers·tidy, number_at};
 
 // Digits that were read: the place after them, and their value.
-#[derive(Drop)]
+#[derive(Clone, Copy)]
 pub struct Digits {
     pub end: usize,
     pub value: u64,
@@ -14,7 +14,7 @@ pub struct Digits {
 
 // A number that was read: the place after it, whether it has a digit, whether it is written as
 // numbers are and has 32 bits, and its value then.
-#[derive(Drop)]
+#[derive(Clone, Copy)]
 pub struct Number {
     pub end: usize,
     pub any: bool,

@@ -31,11 +31,11 @@ in_window b s a e h =
     (leb-true s a t.0, ltb-true a e t.1)
 
 -- an aligned access that memory does not hold, as `place_of` tests it
-pub beyond-memory : (n a size m : ℕ) (x y w : Bool) → x ≡ eqb (a % n) 0 → not x ≡ false → m ≡ n → size < a + m → y ≡ eqb n 4
+pub beyond-memory : (n a size m : ℕ) (x y w : Bool) → x ≡ eqb (a % n) 0 → x ≡ true → m ≡ n → size < a + m → y ≡ eqb n 4
     → (y && (leb window_start a && ltb a window_end)) ≡ w → cond w (Fuse (word a)) Outside ≡ placed n a size
 unfolding placed
 beyond-memory n a size m x y w aligned t counted l words e =
-    rw (← aligned, not-false x t, lt-leb (a + n) size (omega arith), ← words, e)
+    rw (← aligned, t, lt-leb (a + n) size (omega arith), ← words, e)
 
 -- ---- back from the place
 

@@ -7,7 +7,7 @@ ghost use Rattle.place.specs.Map.{placed};
 
 use octets::Width;
 
-#[derive(Drop)]
+#[derive(Clone, Copy)]
 pub enum Place {
     // the bytes of main memory from here
     Memory(usize),

@@ -48,8 +48,8 @@ use Rattle.promises.proofs.Steps.{no-budget, stays_stopped}
 run-runs : (b : ℕ) {v w : World} → v ≡ w → Runnable w → run_entry b v ≡ run_given b w
 run-runs b {v} {w} e g = ap (run_entry b) e ∙ run_accepted b w (runnable_passes w g)
 
-pub left_by : (b : ℕ) {v w : World} → v ≡ w → Runnable w → left_by b v ≡ ran b w
-left_by b {v} {w} e g =
+pub left_by_lem : (b : ℕ) {v w : World} → v ≡ w → Runnable w → left_by b v ≡ ran b w
+left_by_lem b {v} {w} e g =
     ap₂ (λ u q. onward u q.answer.state q.lent) e (run-runs b e g)
     ∙ ran-onward b w
 
@@ -64,11 +64,11 @@ reads-back p w g t =
 
 ends : (b : ℕ) (ps : List Piece) {v w : World} → v ≡ w → Runnable w → SlotsThere ps → (cut_run b ps v ≡ ran (total b ps) w) × (answers b ps v ≡ manual b ps w)
 unfolding cut_run answers total manual SlotsThere
-ends b [] {v} {w} e g t = (left_by b e g, ap (λ q. of_ran q.answer ∷ []) (run-runs b e g))
+ends b [] {v} {w} e g t = (left_by_lem b e g, ap (λ q. of_ran q.answer ∷ []) (run-runs b e g))
 ends b (p ∷ ps) {v} {w} e g t =
     let o = run-runs b e g in
     let g' : Runnable (ran b w) = runnable_ran b w g in
-    let i = ends p.budget ps (ap (read_back p) (left_by b e g) ∙ reads-back p (ran b w) g' t.0) g' t.1 in
+    let i = ends p.budget ps (ap (read_back p) (left_by_lem b e g) ∙ reads-back p (ran b w) g' t.0) g' t.1 in
     (i.0 ∙ sym (ran-add b (total p.budget ps) w), λ j. of_ran (o j).answer ∷ i.1 j)
 
 pub cut : Cut

@@ -26,7 +26,7 @@ use Rattle.word.specs.Bits.{flag}
 use Rattle.word.proofs.Bools.{and-fails}
 use Rattle.octets.specs.Bytes.{load}
 use Rattle.fuses.specs.Row.{value_at, mark_at, rest_at, keeps_rules, all_keep, lowest_bad}
-use Rattle.fuses.proofs.Rows.{record_breaks, lowest_breaks, all-below, all_keep}
+use Rattle.fuses.proofs.Rows.{record_breaks, lowest_breaks, all-below, all_keep_lem}
 use Rattle.state.specs.declared.State.{State}
 use Rattle.state.specs.States.{address_allowed, form_checked, state_checked}
 use Rattle.state.proofs.Laws.{odd_pc, no_stop, stray_address, form-passes, form-passed, formed_before}
@@ -226,7 +226,7 @@ start-before b m rest q = (
       let l = start_accepted b m rest e in
       ((l.0.short, l.0.row.0, λ k h. (rules-as-before k b.row).0 (all-below 64 k b.row l.0.row.1 h)), (apart-masks m).0 l.1, q.0 l.2),
   λ h.
-      start-passes b m rest (record { short = h.0.0; row = (h.0.1, all_keep 64 b.row (λ k l. (rules-as-before k b.row).1 (h.0.2 k l))) }) ((apart-masks m).1 h.1)
+      start-passes b m rest (record { short = h.0.0; row = (h.0.1, all_keep_lem 64 b.row (λ k l. (rules-as-before k b.row).1 (h.0.2 k l))) }) ((apart-masks m).1 h.1)
       ∙ q.1 h.2,
 )
 

@@ -19,7 +19,7 @@ use Rattle.slots.specs.Slots.{slot_there}
 use Rattle.promises.specs.Burning.{Start, begun, row_after}
 use Rattle.promises.specs.Cuts.{Piece, SlotsThere, total, manual}
 use Rattle.promises.proofs.Refusals.{accepted_passes}
-use Rattle.promises.proofs.Cuts.{left_by, reads-back}
+use Rattle.promises.proofs.Cuts.{left_by_lem, reads-back}
 use Rattle.promises_sharing.specs.Sharing.{Mine, Foreign, Agree}
 use Rattle.promises_sharing.specs.Turns.{Apart, SwappedApart, Turn, pieces, AllApart, TurnsApart, on_row, turn_start, in_turns, turn_answers, CutInTurns, AllSwapped, TurnsSwapped, CutBesideTheOther, Move, first, second, MovesThere, moved, both, firsts, seconds, SideBySide}
 use Rattle.promises_sharing.proofs.Agreeing.{agree_refl, agree_trans, agree_at}
@@ -84,14 +84,14 @@ turns-end : (b : ℕ) (ts : List Turn) {own : ℕ} {u v w : World} → u ≡ v �
     → Alike own (in_turns b ts u) (ran (total b (pieces ts)) w) × (turn_answers b ts u ≡ manual b (pieces ts) w)
 unfolding in_turns turn_answers pieces total manual SlotsThere TurnsApart
 turns-end b [] {own} {u} {v} {w} e g a s h =
-    (subst (λ x. Alike own x (ran b w)) (sym (left_by b e g)) (run-alike b a).0, λ j. answers-alike b e g a j ∷ [])
+    (subst (λ x. Alike own x (ran b w)) (sym (left_by_lem b e g)) (run-alike b a).0, λ j. answers-alike b e g a j ∷ [])
 turns-end b (t ∷ ts) {own} {u} {v} {w} e g a s h =
     let x : World = ran b v in
     let good : Runnable x = runnable_ran b v g in
     let f : List ℕ = row_after t.others x.board.row in
     let o = others-spare own t.others x.board.row h.0 in
     let on : Runnable (on_row f x) = runnable_on f x good (o.bytes good.1.0.row_bytes) (o.sound good.1.1.row) in
-    let i = turns-end t.piece.budget ts (ap (turn_start t) (left_by b e g) ∙ reads-back t.piece (on_row f x) on s.0) on
+    let i = turns-end t.piece.budget ts (ap (turn_start t) (left_by_lem b e g) ∙ reads-back t.piece (on_row f x) on s.0) on
     (alike-on f o.others (run-alike b a).0) s.1 h.1 in
     (subst (λ y. Alike own (in_turns b (t ∷ ts) u) y) (sym (ran-add b (total t.piece.budget (pieces ts)) w)) i.0, λ j. answers-alike b e g a j ∷ i.1 j)
 
@@ -143,7 +143,7 @@ across {a} {b} {f} s = record {
 beside-moved : (p : Piece) {a b : ℕ} {f : List ℕ} {v w v' w' : World} → Apart a b → slot_there p.slot p.slots ≡ true → Beside a b f v w v' w'
     → Beside a b f (moved p v) (on_row (moved p v).board.row w) (ran p.budget v') w'
 beside-moved p {a} {b} {f} {v} {w} {v'} {w'} h t s =
-    subst (λ x. Beside a b f x (on_row x.board.row w) (ran p.budget v') w') (sym (left_by p.budget (reads-back p v s.one-runs t) s.one-runs))
+    subst (λ x. Beside a b f x (on_row x.board.row w) (ran p.budget v') w') (sym (left_by_lem p.budget (reads-back p v s.one-runs t) s.one-runs))
     (record {
       one = (run-alike p.budget s.one).0;
       two = alike-on g (subst (Agree (Mine b) g) (sym s.row) (theirs a b h q).others) s.two;

@@ -14,7 +14,7 @@ use ranges::in_range;
 use text::sample_line;
 
 // The numbers of a line so far, by field, and the place of the leftmost wrong one.
-#[derive(Drop)]
+#[derive(Clone, Copy)]
 pub struct Fields {
     pub rd: u32,
     pub rs1: u32,
@@ -36,7 +36,7 @@ impl Fields {
 }
 
 // A place in the line, with the fields so far; or the place of a byte that can't go on.
-#[derive(Drop)]
+#[derive(Clone, Copy)]
 pub enum Read {
     At(usize, Fields),
     Stuck(usize),
@@ -44,7 +44,7 @@ pub enum Read {
 
 // The first line of a text: with c: or not, its operation, its fields and the place after it; or the
 // place of the first byte that can not continue a readable line.
-#[derive(Drop)]
+#[derive(Clone, Copy)]
 pub enum Line {
     Reads(bool, u8, Fields, usize),
     Unreadable(usize),

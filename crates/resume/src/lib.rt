@@ -12,7 +12,7 @@ use engine::run_steps;
 use slots::{put, read_slot};
 
 // What `run_slot` answers: the number retired, or a refusal.
-#[derive(Drop)]
+#[derive(Clone, Copy)]
 pub enum Resumed {
     Retired(u64),
     Refused(Refusal),

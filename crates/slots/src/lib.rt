@@ -11,7 +11,7 @@ use records::{check_record, read_record, write_record};
 use state::State;
 
 // What `read_slot` answers: the state, or a refusal and no state.
-#[derive(Drop)]
+#[derive(Clone, Copy)]
 pub struct ReadBack {
     pub check: Check,
     pub state: State,

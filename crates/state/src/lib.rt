@@ -7,7 +7,7 @@ ghost use Rattle.state.specs.States.{register_of, register_set, written, advance
 use answers::{Cause, Check, Refusal};
 use isa::Reg;
 
-#[derive(Drop)]
+#[derive(Clone, Copy)]
 pub struct State {
     pub pc: u32,
     // x1 to x31

@@ -14,7 +14,7 @@ use isa::{Inst, Reg};
 use parts::parts_of;
 
 // An operand as its text shows it: a register, an unsigned number, or a number in two's complement.
-#[derive(Drop)]
+#[derive(Clone, Copy)]
 pub enum Operand {
     Register(Reg),
     Unsigned(u32),

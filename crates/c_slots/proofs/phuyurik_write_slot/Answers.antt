@@ -1,0 +1,34 @@
+-- `phuyurik_write_slot` meets its contract: the slot's test decides, then what reading the record answers; else the state goes into the slot.
+use native.Mathlib.Omega.{arith}
+use mathlib.Core.Path.{sym, ◌∙◌}
+use borrow.Author.Rules.{rules}
+use borrow.Author.Tests.{not-true, not-false}
+use Rattle.slots.proofs.Slots.{slot-fits, check-was, state-was}
+use Rattle.c_slots.proofs.Calls.{no_slot, no-state, written}
+use Rattle.c_slots.proofs.phuyurik_write_slot.Goals as goal
+
+pub returns-then-not-is_slot : goal.returns-then-not-is_slot
+returns-then-not-is_slot c =
+    let slot = c in
+    let at = slot.args in
+    rw c.number.ensures (no_slot at.state.now at.k at.slots.now (sym slot.is_slot.ensures ∙ c.if-not-is_slot.true))
+
+pub returns-in-Refused : goal.returns-in-Refused
+returns-in-Refused c =
+    let read = c in
+    let slot = read in
+    let at = slot.args in
+    rw c.number-in-Refused.ensures
+    (no-state at.state.now at.k at.slots.now (sym slot.is_slot.ensures ∙ read.if-not-is_slot.false)
+    (check-was 0 at.state.now read.read_slot-back.ensures c.in-Refused.is))
+
+pub returns : goal.returns
+returns c =
+    let put = c in
+    let read = put in
+    let passed = put.in_default.is in
+    let slot = read in
+    let at = slot.args in
+    written at.state.now at.k at.slots.now (sym slot.is_slot.ensures ∙ read.if-not-is_slot.false)
+    (check-was 0 at.state.now read.read_slot-back.ensures passed)
+    (rw (← (state-was 0 at.state.now read.read_slot-back.ensures passed)) put.put.ensures)

@@ -1,0 +1,8 @@
+-- `fuses::burn` meets its contract: the two stores are the two of `burnt`.
+use Rattle.fuses.specs.Row.{burnt}
+use borrow.Author.Rules.{rules}
+use Rattle.fuses.proofs.burn.Goals as goal
+
+pub returns : goal.returns
+unfolding burnt
+returns c = rw (c.store1.ensures, c.store4.ensures)

@@ -1,0 +1,10 @@
+-- `fuses::keeps_rules` meets its contract: the upper half is the mark and the three bytes above it.
+use native.Mathlib.Omega.{arith}
+use borrow.Author.Rules.{rules}
+use Rattle.fuses.proofs.Rows.{upper-rules}
+use Rattle.fuses.proofs.keeps_rules.Goals as goal
+
+pub returns : goal.returns
+returns c =
+    let at = c.args in
+    rw (c.load4-value.ensures, c.load4-upper.ensures) (upper-rules at.k at.row.now (omega arith) (omega arith))

@@ -1,0 +1,17 @@
+use native.Mathlib.Omega.{arith}
+use mathlib.Core.Path.{◌≡◌}
+use lib.ListN.{length, take}
+use Rattle.records.proofs.Records.{write-start, write-turn, write_done}
+use Rattle.records.specs.Records.{words, record_of}
+use Rattle.octets.specs.Bytes.{little_endian}
+use mathlib.Core.List.{◌++◌}
+use Prim.Native.Nat.{◌+◌, ◌-◌, ◌*◌, ◌≤◌}
+use borrow.Author.Rules.{rules}
+use Rattle.records.proofs.write_record.Given as goal
+
+abbrev pub invariant-loop-i : goal.invariant-loop-i
+invariant-loop-i l =
+    (l.i ≤ 31) × ((length l.part ≡ 144) × ((length l.x ≡ 31) × (take (4 + 4 * l.i) l.part ≡ little_endian 4 l.s.pc ++ words (take l.i l.x))))
+
+abbrev pub decreases-loop-i : goal.decreases-loop-i
+decreases-loop-i l = 31 - l.i

@@ -1,0 +1,15 @@
+-- The table is the 48 sample lines, which antt computes.
+use mathlib.Core.Path.{refl}
+use native.Mathlib.Omega.{arith}
+use borrow.Author.Rules.{rules}
+use Rattle.ascii.specs.Numbers.{decimal, decimal_by, signed_decimal}
+use Rattle.isa.specs.Building.{built}
+use Rattle.text.specs.Names.{names, name_at}
+use Rattle.text.specs.Text.{operands_of, text_of}
+use Rattle.text.specs.Samples.{sample_line, padded}
+use Rattle.text.proofs.Samples.{rule}
+use Rattle.text.proofs.sample_line.Goals as goal
+
+pub returns : goal.returns
+unfolding decimal decimal_by signed_decimal names name_at operands_of text_of built sample_line padded
+returns c = rule _ c.args.operation _ (omega arith) refl
