@@ -14,12 +14,7 @@ use resume::run_slot_masked;
 use run_calls::answer;
 
 // One step. Refuses with 1, 2, 3, 5, 14 and 15.
-pub fn phuyurik_step(
-    state: &mut [u8; 144],
-    mem: &mut [u8],
-    row: &mut [u8],
-    word: &mut usize,
-) -> u32
+pub fn phuyurik_step(state: &mut [u8; 144], mem: &mut [u8], row: &mut [u8], word: &mut usize) -> u32
     ensures { outcome result (word.new, bench (board mem.new row.new) state.new) ≡ step_call (bench (board mem.old row.old) state.old) word.old }
 {
     let mut retired = 0;

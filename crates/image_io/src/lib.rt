@@ -4,13 +4,17 @@
 
 ghost use Rattle.std.specs.Prelude.{◌≡◌, ◌≤◌, ◌<◌, IfOk, length};
 
-use std::io::{self, Read, Write};
-
 use listing::list;
 use reading::read_full;
+use std::io::{self, Read, Write};
 
 // Writes a page of the listing and answers the address of the next one.
-fn write_page<W: Write>(output: &mut W, image: &[u8], from: usize, page: &mut [u8]) -> io::Result<usize>
+fn write_page<W: Write>(
+    output: &mut W,
+    image: &[u8],
+    from: usize,
+    page: &mut [u8],
+) -> io::Result<usize>
     requires from_in_bounds { from < length image.now }
     requires in_bounds { 38 ≤ length page.old }
     ensures moves { IfOk result (λ next. from < next) }

@@ -22,7 +22,6 @@ use Rattle.reader.specs.declared.Read.{Read}
 use Rattle.reader.specs.declared.Read.TheVariants.{At, Stuck}
 use Rattle.reader.specs.declared.Line.{Line}
 use Rattle.reader.specs.declared.Line.TheVariants.{Reads, Unreadable}
-use Rattle.numerals.specs.Numbers.{front}
 use Rattle.text.specs.Samples.{sample_line}
 use Rattle.reader.specs.Reading.{no_fields, taken, over_piece, along}
 use Rattle.reader.specs.Line.{taken_all, line_of, furthest, read_by, among_from, prefix, colon, first_line, Same}

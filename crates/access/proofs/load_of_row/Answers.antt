@@ -1,7 +1,5 @@
 -- `access::load_of_row` meets its contract: by its test of the mask.
 use mathlib.Core.Path.{sym, ◌∙◌}
-use borrow.Author.Rules.{rules}
-use borrow.Author.Tests.{not-true, not-false}
 use Rattle.access.specs.Accesses.{loaded_from_row}
 use Rattle.access.proofs.load_of_row.Goals as goal
 

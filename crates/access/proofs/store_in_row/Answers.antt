@@ -1,7 +1,5 @@
 -- `access::store_in_row` meets its contract: by its test of the mask, then by what the row's own store comes to.
 use mathlib.Core.Path.{sym, ◌∙◌}
-use borrow.Author.Rules.{rules}
-use borrow.Author.Tests.{not-true, not-false}
 use Rattle.access.specs.Accesses.{stored_in_row}
 use Rattle.access.proofs.store_in_row.Goals as goal
 

@@ -1,8 +1,7 @@
 -- `ascii::put_decimal` meets its contract: one digit alone, or the last digit after the others, which are the text of a smaller number.
-use borrow.Author.Rules.{rules}
 use mathlib.Core.Path.{ap}
 use native.Mathlib.Omega.{arith}
-use Prim.Native.Nat.{ℕ, ◌<◌, ◌≤◌}
+use Prim.Native.Nat.{◌<◌, ◌≤◌}
 use lib.ListN.{length, length-append}
 use Rattle.ascii.proofs.Rooms.{then}
 use Rattle.ascii.proofs.Numbers.{decimal-one, decimal-more}

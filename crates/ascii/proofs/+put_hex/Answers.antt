@@ -1,8 +1,7 @@
 -- `ascii::put_hex` meets its contract: no digit, or the last digit after the others.
-use borrow.Author.Rules.{rules}
 use mathlib.Core.Path.{◌≡◌}
 use native.Mathlib.Omega.{arith}
-use Prim.Native.Nat.{ℕ, ◌<◌, ◌-◌, ◌/◌}
+use Prim.Native.Nat.{◌-◌, ◌/◌}
 use Rattle.ascii.specs.Numbers.{hex}
 use Rattle.ascii.proofs.Rooms.{nothing, then}
 use Rattle.ascii.proofs.Numbers.{hex-more, hex-length}

@@ -1,10 +1,9 @@
 -- `ascii::put_all` meets its contract. The invariant: the bytes passed so far stand in the room, which is as long as it was.
-use mathlib.Core.Path.{◌≡◌, refl, ap, ◌∙◌}
+use mathlib.Core.Path.{ap, ◌∙◌}
 use mathlib.Core.List.{List}
-use Prim.Native.Nat.{ℕ, ◌+◌, ◌-◌, ◌≤◌}
+use Prim.Native.Nat.{ℕ, ◌+◌}
 use native.Mathlib.Omega.{arith}
-use lib.ListN.{length, take, set, get_or, length-set}
-use lib.Seq.{sets, take-length}
+use lib.ListN.{set, get_or, length-set}
 use Rattle.ascii.proofs.Rooms.{sets_more}
 use Rattle.ascii.proofs.put_all.Goals as goal
 

@@ -1,5 +1,4 @@
 -- `ascii::put_signed` meets its contract: decimal, or a minus sign and the decimal of what is missing to 2^32.
-use borrow.Author.Rules.{rules}
 use mathlib.Core.Path.{◌≡◌, ap}
 use native.Mathlib.Omega.{arith}
 use Prim.Native.Nat.{ℕ, ◌-◌, ◌+◌, ◌^◌, ◌<◌, ◌≤◌}

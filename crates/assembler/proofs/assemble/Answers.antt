@@ -1,7 +1,6 @@
 -- `assembler::assemble` meets its contract: a line is at fault, the room is too short, or the output is written.
-use borrow.Author.Rules.{rules}
 use native.Mathlib.Omega.{arith}
-use Rattle.assembler.proofs.Passes.{refused-line, small-room, fits-room, filled-room}
+use Rattle.assembler.proofs.Passes.{refused-line, small-room, filled-room}
 use Rattle.assembler.proofs.assemble.Goals as goal
 
 pub returns-in_default : goal.returns-in_default

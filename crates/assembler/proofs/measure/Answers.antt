@@ -1,16 +1,11 @@
 -- The invariant: the whole is what is left, after the bytes and lines so far, which are no more than the bytes read. What is left falls.
-use mathlib.Core.Path.{◌≡◌, refl, sym, ◌∙◌}
-use borrow.Author.Rules.{rules}
+use mathlib.Core.Path.{sym, ◌∙◌}
 use native.Mathlib.Omega.{arith}
-use Prim.Native.Nat.{◌-◌, ◌≤◌}
-use lib.ListN.{length, drop}
-use Rattle.assembly.specs.Assembly.{assembled}
-use Rattle.assembler.specs.Passes.{measured}
-use Rattle.assembler.proofs.Passes.{Step, step-here, fault-here, measures_on, measures_fault, measures_end}
+use Rattle.assembler.proofs.Passes.{step-here, fault-here, measures_on, measures_fault, measures_end}
 use Rattle.assembler.proofs.measure.Goals as goal
 
 pub overflow_add-at : goal.overflow_add-at
-overflow_add-at c = 
+overflow_add-at c =
     let s = step-here c.args.text.now c.loop-at.at c.code_line.result (omega arith) c.code_line.ensures c.in-Code.field-0 c.in-Code.size c.in-Code.end c.in-Code.is in
     omega (arith, s.within)
 

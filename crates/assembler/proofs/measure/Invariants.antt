@@ -1,11 +1,8 @@
-use mathlib.Core.Path.{◌≡◌, refl, sym, ◌∙◌}
-use borrow.Author.Rules.{rules}
-use native.Mathlib.Omega.{arith}
+use mathlib.Core.Path.{◌≡◌}
 use Prim.Native.Nat.{◌-◌, ◌≤◌}
 use lib.ListN.{length, drop}
 use Rattle.assembly.specs.Assembly.{assembled}
 use Rattle.assembler.specs.Passes.{measured}
-use Rattle.assembler.proofs.Passes.{Step, step-here, fault-here, measures_on, measures_fault, measures_end}
 use Rattle.assembler.proofs.measure.Given as goal
 
 abbrev pub invariant-loop-at : goal.invariant-loop-at

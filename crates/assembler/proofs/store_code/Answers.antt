@@ -1,11 +1,6 @@
 -- `assembler::store_code` meets its contract, by the size; a store of n bytes takes its number modulo 2 ^ (8 * n).
-use mathlib.Core.Path.{◌≡◌, ◌∙◌}
-use mathlib.Core.Logic.{inl, inr}
-use Prim.Native.Nat.{ℕ}
-use borrow.Author.Rules.{rules}
-use native.Mathlib.Omega.{arith}
+use mathlib.Core.Path.{◌∙◌}
 use Rattle.octets.proofs.Bytes.{store_mod}
-use Rattle.coder.specs.Coding.{CodeSize}
 use Rattle.assembler.proofs.store_code.Goals as goal
 
 pub returns-then-size-eq2 : goal.returns-then-size-eq2

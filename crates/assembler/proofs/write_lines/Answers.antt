@@ -1,9 +1,6 @@
 -- The invariant: what is left to write is the rest of the output, and fits. What is left of the text falls.
-use borrow.Author.Rules.{rules}
 use native.Mathlib.Omega.{arith}
-use Prim.Native.Nat.{◌-◌, ◌≤◌}
-use lib.ListN.{length}
-use Rattle.assembler.proofs.Passes.{Step, step-here, fault-here, Left, left-all, fits-here, left_after, left-none, left-fault}
+use Rattle.assembler.proofs.Passes.{step-here, fault-here, fits-here, left_after, left-none, left-fault}
 use Rattle.assembler.proofs.write_lines.Goals as goal
 
 pub store_code-requires-clause-size_in_bounds : goal.store_code-requires-clause-size_in_bounds
@@ -14,7 +11,7 @@ store_code-requires-clause-size_in_bounds c =
     fits-here a.text.now a.room.now l.room l.at l.length l.invariant.1 s
 
 pub overflow_add-at : goal.overflow_add-at
-overflow_add-at c = 
+overflow_add-at c =
     let s = step-here c.args.text.now c.loop-at.at c.code_line.result (omega arith) c.code_line.ensures c.in-Code.bits c.in-Code.size c.in-Code.end c.in-Code.is in
     omega (arith, s.within)
 

@@ -1,5 +1,4 @@
 -- `assembly_io::complain` meets its contract: the number has two digits at most, then a newline.
-use borrow.Author.Rules.{rules}
 use native.Mathlib.Omega.{arith}
 use Rattle.ascii.proofs.Rooms.{then}
 use Rattle.assembly_io.specs.Saying.{complaint}

@@ -1,5 +1,4 @@
 -- `assembly_io::say` meets its contract: the text is too long, its output is all given, or the refusal's number is written.
-use borrow.Author.Rules.{rules}
 use native.Mathlib.Omega.{arith}
 use Rattle.assembly_io.proofs.Saying.{too_long, all-given, complained}
 use Rattle.assembly_io.proofs.say.Goals as goal

@@ -1,9 +1,6 @@
 -- `phuyurik_write_slot` meets its contract: the slot's test decides, then what reading the record answers; else the state goes into the slot.
-use native.Mathlib.Omega.{arith}
 use mathlib.Core.Path.{sym, ◌∙◌}
-use borrow.Author.Rules.{rules}
-use borrow.Author.Tests.{not-true, not-false}
-use Rattle.slots.proofs.Slots.{slot-fits, check-was, state-was}
+use Rattle.slots.proofs.Slots.{check-was, state-was}
 use Rattle.c_slots.proofs.Calls.{no_slot, no-state, written}
 use Rattle.c_slots.proofs.phuyurik_write_slot.Goals as goal
 

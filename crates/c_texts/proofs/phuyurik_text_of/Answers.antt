@@ -4,7 +4,6 @@ use native.Mathlib.Omega.{arith}
 use mathlib.Core.Path.{◌≡◌, refl, ap}
 use mathlib.Core.List.{List}
 use lib.ListN.{length}
-use borrow.Author.Rules.{rules}
 use Rattle.answers.specs.Answer.{Answer, given, refused_with}
 use Rattle.answers.specs.Outcomes.{outcome}
 use Rattle.answers.specs.declared.Refusal.TheVariants as R
@@ -14,7 +13,6 @@ use Rattle.disassembler.proofs.Outcomes.{no_room, text-refused}
 use Rattle.answers.specs.Replies.{called}
 use Rattle.disassembler.specs.Entries.{of_written}
 use Rattle.c_texts.specs.Texts.{inst_text}
-use Rattle.c_texts.proofs.Calls.{text-called}
 use Rattle.c_texts.proofs.phuyurik_text_of.Goals as goal
 
 short : (a : Answer Inst) (room : List ℕ) → length room < 24 → outcome (W.Refused R.Room) room ≡ inst_text a room

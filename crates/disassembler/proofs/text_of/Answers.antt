@@ -1,8 +1,6 @@
 -- `text_of` meets its contract: the room's test, then the instruction's, decide as the contract's do; the text is written from 0 on.
 use native.Mathlib.Omega.{arith}
 use mathlib.Core.Path.{sym, ◌∙◌}
-use borrow.Author.Rules.{rules}
-use borrow.Author.Tests.{not-true, not-false}
 use Rattle.text.proofs.Lengths.{text-fits}
 use Rattle.disassembler.proofs.Outcomes.{no_room, text-refused, text-written}
 use Rattle.disassembler.proofs.text_of.Goals as goal

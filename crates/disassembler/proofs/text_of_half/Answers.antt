@@ -1,7 +1,6 @@
 -- `text_of_half` meets its contract: the room's test, then what the bits mean, decide as the contract's do; the text is written from 0 on.
 use native.Mathlib.Omega.{arith}
 use mathlib.Core.Path.{sym, ap, ◌∙◌}
-use borrow.Author.Rules.{rules}
 use Rattle.disassembler.specs.Entries.{legal_checked}
 use Rattle.disassembler.proofs.Outcomes.{half-fits, no_room, text-refused, text-written}
 use Rattle.disassembler.proofs.text_of_half.Goals as goal

@@ -1,5 +1,4 @@
 -- Arm by arm: the operation, then its codes, then its format.
-use borrow.Author.Rules.{rules}
 use Rattle.isa.specs.Encoding.{word_of}
 use Rattle.encoder.proofs.word_of.Goals as goal
 

@@ -1,5 +1,4 @@
 -- By what was fetched.
-use borrow.Author.Rules.{rules}
 use Rattle.engine.specs.Steps.{act_fetched}
 use Rattle.engine.proofs.act_at.Goals as goal
 

@@ -1,9 +1,6 @@
 -- `engine::apply` meets its contract: a write to x0 may be left out.
-use native.Mathlib.Omega.{arith}
-use mathlib.Core.Path.{sym, ap, ◌∙◌}
-use borrow.Author.Rules.{rules}
+use mathlib.Core.Path.{sym, ◌∙◌}
 use borrow.Author.Tests.{eq-eqb}
-use Rattle.state.specs.declared.State.{State}
 use Rattle.engine.specs.Steps.{applied}
 use Rattle.engine.proofs.apply.Goals as goal
 

@@ -2,8 +2,6 @@
 use Prim.Native.Nat.{ℕ}
 use native.Mathlib.Omega.{arith}
 use mathlib.Core.Path.{◌≡◌, sym, ap, ◌∙◌}
-use lib.ListN.{length}
-use borrow.Author.Rules.{rules}
 use Rattle.boards.specs.Boards.{board, masks}
 use Rattle.engine.specs.Steps.{masked, ran}
 use Rattle.engine.proofs.Laws.{ran_stopped, ran-turn, ran-full, step-does}

@@ -1,11 +1,7 @@
-use Prim.Native.Nat.{ℕ}
-use native.Mathlib.Omega.{arith}
-use mathlib.Core.Path.{◌≡◌, sym, ap, ◌∙◌}
+use mathlib.Core.Path.{◌≡◌}
 use lib.ListN.{length}
-use borrow.Author.Rules.{rules}
 use Rattle.boards.specs.Boards.{board, masks}
 use Rattle.engine.specs.Steps.{masked, ran}
-use Rattle.engine.proofs.Laws.{ran_stopped, ran-turn, ran-full, step-does}
 use Rattle.engine.proofs.run_steps.Given as goal
 
 abbrev pub invariant-loop-left : goal.invariant-loop-left

@@ -1,5 +1,4 @@
 -- `execute::decide` meets its contract: each arm is the row of `act_of` for its instruction, over what the calls ensure.
-use borrow.Author.Rules.{rules}
 use Rattle.execute.specs.Execution.{act_of}
 use Rattle.execute.proofs.decide.Goals as goal
 

@@ -1,5 +1,4 @@
 -- `execute::perform` meets its contract: each arm is the row of `performed` for its act.
-use borrow.Author.Rules.{rules}
 use Rattle.execute.specs.Execution.{performed}
 use Rattle.execute.proofs.perform.Goals as goal
 

@@ -2,7 +2,6 @@
 use mathlib.Core.Path.{sym, ◌∙◌}
 use Prim.Native.Nat.{◌+◌, ◌%◌, ◌<◌}
 use lib.ListN.{length}
-use borrow.Author.Rules.{rules}
 use borrow.Author.Tests.{eq-eqb, le-leb, lt-leb}
 use Rattle.fetch.specs.Fetching.{fetched}
 use Rattle.fetch.proofs.Laws.{fetch_short, fetch_long}

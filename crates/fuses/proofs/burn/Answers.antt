@@ -1,6 +1,5 @@
 -- `fuses::burn` meets its contract: the two stores are the two of `burnt`.
 use Rattle.fuses.specs.Row.{burnt}
-use borrow.Author.Rules.{rules}
 use Rattle.fuses.proofs.burn.Goals as goal
 
 pub returns : goal.returns

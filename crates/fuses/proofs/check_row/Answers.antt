@@ -1,6 +1,5 @@
 -- `fuses::check_row` meets its contract: its two tests are those of `row_checked`.
-use borrow.Author.Rules.{rules}
-use borrow.Author.Tests.{eq-eqb, ne_eqb, lt-leb, le-leb}
+use borrow.Author.Tests.{eq-eqb, lt-leb, le-leb}
 use Rattle.fuses.proofs.Rows.{lowest-tells}
 use Rattle.fuses.proofs.check_row.Goals as goal
 

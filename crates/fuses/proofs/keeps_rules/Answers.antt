@@ -1,6 +1,5 @@
 -- `fuses::keeps_rules` meets its contract: the upper half is the mark and the three bytes above it.
 use native.Mathlib.Omega.{arith}
-use borrow.Author.Rules.{rules}
 use Rattle.fuses.proofs.Rows.{upper-rules}
 use Rattle.fuses.proofs.keeps_rules.Goals as goal
 

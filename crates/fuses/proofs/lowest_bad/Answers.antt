@@ -1,11 +1,8 @@
 -- `fuses::lowest_bad` meets its contract. The loop's invariant: the records passed keep the rules; so the first that breaks them is the lowest.
-use Prim.Native.Nat.{◌≤◌, ◌-◌}
 use native.Mathlib.Numerals.{add-one}
 use native.Mathlib.Omega.{arith}
 use mathlib.Core.Path.{◌≡◌, refl, sym, ◌∙◌}
-use mathlib.Core.Bool.{true}
 use borrow.Author.Rules.{rules}
-use borrow.Author.Tests.{not-true, not-false}
 use Rattle.fuses.specs.Row.{all_keep}
 use Rattle.fuses.proofs.Rows.{lowest-is, lowest-all}
 use Rattle.fuses.proofs.lowest_bad.Goals as goal

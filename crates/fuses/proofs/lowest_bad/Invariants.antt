@@ -1,12 +1,7 @@
 use Prim.Native.Nat.{◌≤◌, ◌-◌}
-use native.Mathlib.Numerals.{add-one}
-use native.Mathlib.Omega.{arith}
-use mathlib.Core.Path.{◌≡◌, refl, sym, ◌∙◌}
+use mathlib.Core.Path.{◌≡◌}
 use mathlib.Core.Bool.{true}
-use borrow.Author.Rules.{rules}
-use borrow.Author.Tests.{not-true, not-false}
 use Rattle.fuses.specs.Row.{all_keep}
-use Rattle.fuses.proofs.Rows.{lowest-is, lowest-all}
 use Rattle.fuses.proofs.lowest_bad.Given as goal
 
 abbrev pub invariant-loop-k : goal.invariant-loop-k

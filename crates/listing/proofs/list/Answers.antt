@@ -1,13 +1,9 @@
 -- The invariant: the room has its length, and the page is what is written so far and a page from the next line on. What is left of the image falls.
-use Prim.Native.Nat.{◌-◌}
-use mathlib.Core.Path.{◌≡◌}
 use mathlib.Core.Logic.{inl, inr}
 use native.Mathlib.Omega.{arith}
-use lib.ListN.{length}
-use borrow.Author.Rules.{rules}
 use borrow.Author.Tests.{leb-true, leb-false}
 use Rattle.listing.proofs.Lines.{line-moves}
-use Rattle.listing.proofs.Writing.{Written, begins, goes_on, ends}
+use Rattle.listing.proofs.Writing.{begins, goes_on, ends}
 use Rattle.listing.proofs.list.Goals as goal
 
 pub loop-next-init : goal.loop-next-init

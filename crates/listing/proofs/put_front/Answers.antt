@@ -1,6 +1,5 @@
 -- Eight digits, a space, so many digits and a space, one after another.
 use native.Mathlib.Omega.{arith}
-use borrow.Author.Rules.{rules}
 use Rattle.ascii.proofs.Numbers.{hex-length}
 use Rattle.ascii.proofs.Rooms.{then}
 use Rattle.listing.proofs.put_front.Goals as goal

@@ -1,5 +1,5 @@
 -- The line is `too long`, or its front, what is shown and a newline, one after another. What is shown lies within the image, and its text fits.
-use Rattle.std.proofs.Common.{◌+◌, ◌*◌, ◌≤◌, length, refl, arith}
+use Rattle.std.proofs.Common.{◌+◌, ◌*◌, ◌≤◌, length, arith}
 use Rattle.ascii.proofs.Rooms.{then}
 use Rattle.listing.specs.Listing.{size_of, shown_text, line_of}
 use Rattle.listing.proofs.Lines.{shown-within, shown-fits, front_length, line-none, line-some}

@@ -1,5 +1,4 @@
 -- By the tests of the image's end and of the fetch.
-use borrow.Author.Rules.{rules}
 use borrow.Author.Tests.{le-leb, lt-leb, eq-eqb, ne_eqb}
 use Rattle.listing.specs.Listing.{shown_at, shown_of}
 use Rattle.listing.proofs.shown_at.Goals as goal

@@ -1,11 +1,7 @@
 -- A refusal decides; else the count grows by what the run retires.
 use native.Mathlib.Omega.{arith}
-use mathlib.Core.Path.{sym, ◌∙◌}
-use borrow.Author.Rules.{rules}
 use Rattle.answers.proofs.Entries.{is-refused, is-given}
-use Rattle.state.specs.States.{state_checked}
 use Rattle.boards.specs.Boards.{board, masks}
-use Rattle.boards.proofs.Boards.{start_accepted}
 use Rattle.engine.specs.Steps.{masked}
 use Rattle.engine.proofs.Laws.{count_grew, count_grew_by}
 use Rattle.machine.specs.Entries.{no_run}

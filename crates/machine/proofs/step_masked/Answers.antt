@@ -1,11 +1,6 @@
 -- A refusal decides; else it is the engine's step.
-use mathlib.Core.Path.{sym, ◌∙◌}
-use borrow.Author.Rules.{rules}
 use Rattle.engine.specs.Steps.{ran}
-use Rattle.state.specs.States.{state_checked}
 use Rattle.answers.proofs.Entries.{is-refused, is-given}
-use Rattle.boards.specs.Boards.{board, masks}
-use Rattle.boards.proofs.Boards.{start_accepted}
 use Rattle.machine.specs.Entries.{no_step}
 use Rattle.machine.proofs.step_masked.Goals as goal
 

@@ -1,6 +1,6 @@
 -- The invariant: the digits from here on, after the value so far, are all of them. What is left of the text falls.
-use Rattle.std.proofs.Common.{◌≡◌, ℕ, ◌+◌, ◌-◌, ◌≤◌, length, drop, sym, refl, ap, ◌∙◌, arith}
-use Rattle.numerals.specs.Numbers.{grown, digits_on, digits_at}
+use Rattle.std.proofs.Common.{ℕ, ◌+◌, drop, sym, ap, ◌∙◌, arith}
+use Rattle.numerals.specs.Numbers.{digits_on}
 use Rattle.numerals.proofs.Laws.{on-more, on-low, on-high, on-end}
 use Rattle.numerals.proofs.read_digits.Goals as goal
 

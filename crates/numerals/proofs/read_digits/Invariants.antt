@@ -1,6 +1,5 @@
-use Rattle.std.proofs.Common.{◌≡◌, ℕ, ◌+◌, ◌-◌, ◌≤◌, length, drop, sym, refl, ap, ◌∙◌, arith}
-use Rattle.numerals.specs.Numbers.{grown, digits_on, digits_at}
-use Rattle.numerals.proofs.Laws.{on-more, on-low, on-high, on-end}
+use Rattle.std.proofs.Common.{◌≡◌, ◌-◌, ◌≤◌, length, drop}
+use Rattle.numerals.specs.Numbers.{digits_on, digits_at}
 use Rattle.numerals.proofs.read_digits.Given as goal
 
 abbrev pub invariant-loop-at : goal.invariant-loop-at

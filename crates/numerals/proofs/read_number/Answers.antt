@@ -1,5 +1,5 @@
 -- No digit, a number that is untidy or past 32 bits with its sign, one with a minus, one without.
-use Rattle.std.proofs.Common.{◌≡◌, ◌-◌, ◌+◌, ◌^◌, ◌<◌, ◌≤◌, length, true, ap, sym, ◌∙◌, arith}
+use Rattle.std.proofs.Common.{◌≡◌, ◌-◌, ◌+◌, ◌^◌, ◌≤◌, length, true, ap, ◌∙◌, arith}
 use Rattle.numerals.proofs.Laws.{sign-within, digits-within}
 use Rattle.numerals.proofs.Numbers.{num, fine, bad, small, negative, bare, value_pos}
 use Rattle.numerals.proofs.read_number.Goals as goal

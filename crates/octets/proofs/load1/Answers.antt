@@ -1,6 +1,5 @@
 -- A byte is the number of one byte.
 use Rattle.octets.proofs.Bytes.{load_one}
-use borrow.Author.Rules.{rules}
 use Rattle.octets.proofs.load1.Goals as goal
 
 pub returns : goal.returns

@@ -2,7 +2,6 @@
 use mathlib.Core.Path.{sym}
 use Rattle.octets.proofs.Bytes.{load-add}
 use native.Mathlib.Omega.{arith}
-use borrow.Author.Rules.{rules}
 use Rattle.octets.proofs.load2.Goals as goal
 
 pub returns : goal.returns

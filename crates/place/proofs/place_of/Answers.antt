@@ -1,10 +1,9 @@
 -- `place::place_of` meets its contract: its tests are those of `placed`, in order.
 use Prim.Native.Nat.{◌+◌, ◌≤◌}
 use native.Mathlib.Omega.{arith}
-use borrow.Author.Rules.{rules}
 use borrow.Author.Tests.{le-leb}
-use Rattle.place.specs.Map.{window_start, placed}
-use Rattle.place.proofs.Placed.{bytes_le, in_window, beyond-memory}
+use Rattle.place.specs.Map.{placed}
+use Rattle.place.proofs.Placed.{beyond-memory}
 use Rattle.place.proofs.place_of.Goals as goal
 
 pub returns-then-not-is_aligned : goal.returns-then-not-is_aligned

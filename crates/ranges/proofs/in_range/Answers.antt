@@ -1,5 +1,4 @@
 -- `ranges::in_range` meets its contract, arm by arm: the operation, then what its operands' tests answer.
-use borrow.Author.Rules.{rules}
 use Rattle.isa.specs.Encoding.{in_range}
 use Rattle.ranges.proofs.in_range.Goals as goal
 

@@ -1,11 +1,10 @@
 -- `encoder::signed_ok` meets its contract: 1 << k is 2 ^ k, so the mask is k ones, and what a mask of k ones leaves is the remainder by 2 ^ k.
-use borrow.Author.Rules.{rules}
 use native.Mathlib.Omega.{arith}
 use native.Mathlib.Nat.{one-mul}
 use mathlib.Core.Path.{◌≡◌, ◌∙◌}
 use Prim.Native.Nat.{ℕ, ◌*◌, ◌%◌, ◌^◌, ◌<◌}
-use lib.Bits.{and_mask, mask_lt}
-use lib.Pow.{pow_pos, shl_exact}
+use lib.Bits.{and_mask}
+use lib.Pow.{shl_exact}
 use Rattle.ranges.proofs.signed_ok.Goals as goal
 
 one_at : (k : ℕ) → k < 32 → 1 * 2 ^ k % 2 ^ 32 ≡ 2 ^ k

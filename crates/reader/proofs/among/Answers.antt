@@ -1,11 +1,7 @@
 -- The invariant: none of the operations before reads, and the place is the furthest of theirs. The operations left fall.
-use mathlib.Core.Path.{◌≡◌, sym, ap, ◌∙◌}
+use mathlib.Core.Path.{sym, ◌∙◌}
 use native.Mathlib.Omega.{arith}
-use Prim.Native.Nat.{ℕ, ◌≤◌, ◌-◌}
-use Rattle.reader.specs.declared.Line.TheVariants.{Unreadable}
-use Rattle.reader.specs.Line.{among_from}
 use Rattle.reader.proofs.Choosing.{nothing_yet, found, one_more}
-use borrow.Author.Rules.{rules}
 use Rattle.reader.proofs.among.Goals as goal
 
 pub loop-k-init : goal.loop-k-init

@@ -1,10 +1,7 @@
-use mathlib.Core.Path.{◌≡◌, sym, ap, ◌∙◌}
-use native.Mathlib.Omega.{arith}
-use Prim.Native.Nat.{ℕ, ◌≤◌, ◌-◌}
+use mathlib.Core.Path.{◌≡◌}
+use Prim.Native.Nat.{◌≤◌, ◌-◌}
 use Rattle.reader.specs.declared.Line.TheVariants.{Unreadable}
 use Rattle.reader.specs.Line.{among_from}
-use Rattle.reader.proofs.Choosing.{nothing_yet, found, one_more}
-use borrow.Author.Rules.{rules}
 use Rattle.reader.proofs.among.Given as goal
 
 abbrev pub invariant-loop-k : goal.invariant-loop-k

@@ -1,8 +1,6 @@
 -- `reader::first_line` meets its contract: a guess that reads the line is right, and another changes nothing.
-use native.Mathlib.Omega.{arith}
 use mathlib.Core.Path.{sym, ◌∙◌}
-use Rattle.reader.proofs.Guessing.{front-most, guessed}
-use borrow.Author.Rules.{rules}
+use Rattle.reader.proofs.Guessing.{guessed}
 use Rattle.reader.proofs.first_line.Goals as goal
 
 pub returns-in-At : goal.returns-in-At

@@ -4,7 +4,6 @@ use native.Mathlib.Omega.{arith}
 use Rattle.reader.specs.declared.Line.TheVariants.{Unreadable}
 use Rattle.reader.specs.Line.{furthest}
 use Rattle.reader.proofs.Choosing.{long-first, no-colon, colon-first, prefix-most}
-use borrow.Author.Rules.{rules}
 use Rattle.reader.proofs.search.Goals as goal
 
 pub returns-in_default : goal.returns-in_default

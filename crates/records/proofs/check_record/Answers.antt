@@ -2,7 +2,6 @@
 use native.Mathlib.Omega.{arith}
 use mathlib.Core.Path.{ap}
 use lib.Dec.{eqb}
-use borrow.Author.Rules.{rules}
 use Rattle.state.specs.States.{form_checked}
 use Rattle.records.specs.Records.{state_of}
 use Rattle.records.proofs.Records.{after_stop}

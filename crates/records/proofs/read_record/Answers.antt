@@ -1,8 +1,7 @@
 -- `read_record` meets its contract: after i turns the first i registers are those that the record says.
-use Prim.Native.Nat.{◌-◌, ◌≤◌}
 use native.Mathlib.Omega.{arith}
 use mathlib.Core.Path.{◌≡◌, refl, sym, ap, ◌∙◌}
-use lib.ListN.{length, take, drop, length-set}
+use lib.ListN.{drop, length-set}
 use lib.Seq.{take_all}
 use borrow.Author.Rules.{rules}
 use Rattle.octets.specs.Bytes.{load}

@@ -1,14 +1,7 @@
 use Prim.Native.Nat.{◌-◌, ◌≤◌}
-use native.Mathlib.Omega.{arith}
-use mathlib.Core.Path.{◌≡◌, refl, sym, ap, ◌∙◌}
-use lib.ListN.{length, take, drop, length-set}
-use lib.Seq.{take_all}
-use borrow.Author.Rules.{rules}
-use Rattle.octets.specs.Bytes.{load}
-use Rattle.octets.proofs.Bytes.{load_one}
-use Rattle.state.specs.States.{state}
-use Rattle.records.specs.Records.{of_words, state_of}
-use Rattle.records.proofs.Records.{read-turn}
+use mathlib.Core.Path.{◌≡◌}
+use lib.ListN.{length, take, drop}
+use Rattle.records.specs.Records.{of_words}
 use Rattle.records.proofs.read_record.Given as goal
 
 abbrev pub invariant-loop-i : goal.invariant-loop-i

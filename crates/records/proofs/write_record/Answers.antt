@@ -1,12 +1,10 @@
 -- `write_record` meets its contract: after i turns the first 4 + 4 * i bytes are pc and the first i registers.
 use native.Mathlib.Omega.{arith}
 use mathlib.Core.Path.{◌≡◌}
-use lib.ListN.{length, take}
+use lib.ListN.{length}
 use Rattle.records.proofs.Records.{write-start, write-turn, write_done}
-use Rattle.records.specs.Records.{words, record_of}
+use Rattle.records.specs.Records.{record_of}
 use Rattle.octets.specs.Bytes.{little_endian}
-use mathlib.Core.List.{◌++◌}
-use Prim.Native.Nat.{◌+◌, ◌-◌, ◌*◌, ◌≤◌}
 use borrow.Author.Rules.{rules}
 use Rattle.records.proofs.write_record.Goals as goal
 

@@ -1,12 +1,9 @@
-use native.Mathlib.Omega.{arith}
 use mathlib.Core.Path.{◌≡◌}
 use lib.ListN.{length, take}
-use Rattle.records.proofs.Records.{write-start, write-turn, write_done}
-use Rattle.records.specs.Records.{words, record_of}
+use Rattle.records.specs.Records.{words}
 use Rattle.octets.specs.Bytes.{little_endian}
 use mathlib.Core.List.{◌++◌}
 use Prim.Native.Nat.{◌+◌, ◌-◌, ◌*◌, ◌≤◌}
-use borrow.Author.Rules.{rules}
 use Rattle.records.proofs.write_record.Given as goal
 
 abbrev pub invariant-loop-i : goal.invariant-loop-i

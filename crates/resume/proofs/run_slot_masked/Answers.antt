@@ -1,10 +1,6 @@
 -- `run_slot_masked` meets its contract: the refusal of board and masks, then the slot's; else the state that the slot has is run, and its record put back.
 use native.Mathlib.Omega.{arith}
-use mathlib.Core.Path.{sym, ◌∙◌}
-use borrow.Author.Rules.{rules}
-use Rattle.answers.specs.declared.Check.TheVariants.{Passed}
 use Rattle.boards.specs.Boards.{board, masks}
-use Rattle.boards.proofs.Boards.{start_accepted}
 use Rattle.engine.specs.Steps.{masked}
 use Rattle.engine.proofs.Laws.{count_grew}
 use Rattle.slots.proofs.Slots.{slot-was-there}

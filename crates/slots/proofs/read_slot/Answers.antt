@@ -1,11 +1,8 @@
 -- `read_slot` meets its contract: the slot's test, then the record's, decide as the contract's do; the part that is read is the slot.
 use mathlib.Core.Path.{refl}
-use native.Mathlib.Omega.{arith}
-use borrow.Author.Rules.{rules}
-use borrow.Author.Tests.{not-true, not-false}
 use Rattle.answers.proofs.Entries.{is-refused, is-given}
 use Rattle.slots.specs.Slots.{no_read}
-use Rattle.slots.proofs.Slots.{one-record, slot-fits}
+use Rattle.slots.proofs.Slots.{one-record}
 use Rattle.slots.proofs.read_slot.Goals as goal
 
 pub returns-then-not-is_slot : goal.returns-then-not-is_slot

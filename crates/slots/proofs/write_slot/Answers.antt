@@ -1,12 +1,8 @@
 -- `write_slot` meets its contract: the slot's test, then the state's, decide as the contract's do.
 use mathlib.Core.Path.{refl, ap}
-use native.Mathlib.Omega.{arith}
-use borrow.Author.Rules.{rules}
-use borrow.Author.Tests.{not-true, not-false}
 use Rattle.answers.specs.declared.Check.TheVariants.{Passed, Refused}
 use Rattle.answers.specs.Outcomes.{outcome}
 use Rattle.answers.proofs.Entries.{is-refused, is-given}
-use Rattle.slots.proofs.Slots.{slot-fits}
 use Rattle.slots.proofs.write_slot.Goals as goal
 
 pub returns-then-not-is_slot : goal.returns-then-not-is_slot

@@ -1,9 +1,7 @@
 use Prim.Native.Nat.{◌-◌, ◌≤◌}
-use native.Mathlib.Omega.{arith}
-use mathlib.Core.Path.{◌≡◌, sym, ◌∙◌}
-use borrow.Author.Rules.{rules}
-use lib.ListN.{length, length-set}
-use Rattle.state.proofs.Writes.{passed, start, turn, end}
+use mathlib.Core.Path.{◌≡◌}
+use lib.ListN.{length}
+use Rattle.state.proofs.Writes.{passed}
 use Rattle.state.proofs.write.Given as goal
 
 abbrev pub invariant-loop-k : goal.invariant-loop-k

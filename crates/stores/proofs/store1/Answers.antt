@@ -1,6 +1,5 @@
 -- A byte set is a store of one byte.
 use Rattle.octets.proofs.Bytes.{store-one}
-use borrow.Author.Rules.{rules}
 use Rattle.stores.proofs.store1.Goals as goal
 
 pub returns : goal.returns

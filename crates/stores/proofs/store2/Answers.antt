@@ -1,7 +1,6 @@
 -- Two bytes are stored as one and one more.
 use Rattle.octets.proofs.Bytes.{store-add}
 use native.Mathlib.Omega.{arith}
-use borrow.Author.Rules.{rules}
 use Rattle.stores.proofs.store2.Goals as goal
 
 pub returns : goal.returns

@@ -1,7 +1,6 @@
 -- Four bytes are stored as two and two more.
 use Rattle.octets.proofs.Bytes.{store-add}
 use native.Mathlib.Omega.{arith}
-use borrow.Author.Rules.{rules}
 use Rattle.stores.proofs.store4.Goals as goal
 
 pub returns : goal.returns

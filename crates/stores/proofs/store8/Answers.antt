@@ -1,7 +1,6 @@
 -- Eight bytes are stored as four and four more.
 use Rattle.octets.proofs.Bytes.{store-add}
 use native.Mathlib.Omega.{arith}
-use borrow.Author.Rules.{rules}
 use Rattle.stores.proofs.store8.Goals as goal
 
 pub returns : goal.returns

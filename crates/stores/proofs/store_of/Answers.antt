@@ -1,9 +1,6 @@
 -- By the width; a store of n bytes takes its number modulo 2 ^ (8 * n).
 use Rattle.octets.proofs.Bytes.{store_mod}
-use Rattle.octets.specs.Widths.{width_bytes}
-use mathlib.Core.Path.{ap, ◌∙◌}
-use native.Mathlib.Omega.{arith}
-use borrow.Author.Rules.{rules}
+use mathlib.Core.Path.{◌∙◌}
 use Rattle.stores.proofs.store_of.Goals as goal
 
 pub returns-in-One : goal.returns-in-One

@@ -1,8 +1,6 @@
 -- At a space or a newline the name is over, at another byte it goes on with that byte.
-use borrow.Author.Rules.{rules}
 use mathlib.Core.Path.{ap}
 use native.Mathlib.Omega.{arith}
-use Prim.Native.Nat.{ℕ, ◌<◌, ◌-◌}
 use lib.ListN.{length}
 use Rattle.ascii.proofs.Rooms.{nothing, then}
 use Rattle.text.proofs.Samples.{name-past, name-over, name-goes-on}

@@ -1,11 +1,7 @@
 -- A sample line begins with its name.
-use borrow.Author.Rules.{rules}
-use mathlib.Core.Path.{ap, ◌∙◌}
 use native.Mathlib.Omega.{arith}
-use lib.ListN.{length}
 use Rattle.ascii.proofs.Rooms.{nothing}
-use Rattle.text.specs.Samples.{sample_line}
-use Rattle.text.proofs.Samples.{no_name, padded-length, name-first}
+use Rattle.text.proofs.Samples.{no_name, name-first}
 use Rattle.text.proofs.put_name.Goals as goal
 
 pub returns-then-operation-ge48 : goal.returns-then-operation-ge48

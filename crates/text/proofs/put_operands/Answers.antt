@@ -1,5 +1,4 @@
 -- Each form has its writer.
-use borrow.Author.Rules.{rules}
 use Rattle.ascii.proofs.Rooms.{nothing}
 use Rattle.text.specs.Text.{operands_of}
 use Rattle.text.proofs.put_operands.Goals as goal

@@ -1,5 +1,4 @@
 -- C, a colon, then the text.
-use borrow.Author.Rules.{rules}
 use native.Mathlib.Omega.{arith}
 use Rattle.ascii.proofs.Rooms.{then}
 use Rattle.text.specs.Text.{short_text_of}

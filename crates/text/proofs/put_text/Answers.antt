@@ -1,5 +1,4 @@
 -- The name, then the operands.
-use borrow.Author.Rules.{rules}
 use native.Mathlib.Omega.{arith}
 use lib.ListN.{length-append}
 use Rattle.ascii.proofs.Rooms.{then}

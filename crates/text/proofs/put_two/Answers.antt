@@ -1,9 +1,5 @@
 -- One writer after another.
-use borrow.Author.Rules.{rules}
-use native.Mathlib.Omega.{arith}
-use lib.ListN.{length-append}
 use Rattle.ascii.proofs.Rooms.{then}
-use Rattle.text.specs.Text.{space, comma, register_text, shown}
 use Rattle.text.proofs.put_two.Goals as goal
 
 pub returns : goal.returns

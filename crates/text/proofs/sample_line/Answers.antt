@@ -1,7 +1,6 @@
 -- The table is the 48 sample lines, which antt computes.
 use mathlib.Core.Path.{refl}
 use native.Mathlib.Omega.{arith}
-use borrow.Author.Rules.{rules}
 use Rattle.ascii.specs.Numbers.{decimal, decimal_by, signed_decimal}
 use Rattle.isa.specs.Building.{built}
 use Rattle.text.specs.Names.{names, name_at}
