@@ -3,9 +3,8 @@
 types and modules in camel case. usage: python3 tools/respell.py, once, at the top, right after the kit's port.py.
 
 What it renames are the names that specs/*.antt and proofs/*.antt declare (definitions, lemmas, constructors, fields, local
-definitions): `stopNumber` becomes stop_number, and a dash becomes `_` but where it joins two names (length-register stays
-where both `length` and `register` are names). A name whose new spelling stands somewhere already keeps the old one, and is
-told. Files of a function's proof, sources, edits and what pages have in backquotes follow. Functions of src/, strings and
+definitions): `stopNumber` becomes stop_number, and a dash becomes `_` but where it joins names of definitions, as in
+length-append. A lemma that would have its function's name gets `_lem`; what clashes otherwise keeps its name, and is told. Files of a function's proof, sources, edits and what pages have in backquotes follow. Functions of src/, strings and
 exported names are not touched: a Rust name has neither a dash nor a capital after a small letter.
 """
 import collections
@@ -18,7 +17,6 @@ TOKEN = re.compile(r"[^\s(){},;.:\"`|]+")
 DECLARED = re.compile(r"^\s*(?:(?:abbrev|unfoldable|pub|axiom)\s+)*([a-z][^\s(){},;.:\"`|]*)((?: [a-z][^\s(){},;.:\"`|]*)*) : ", re.M)
 # what the rules do not give: names that would fall together with another, and what the kit's script left or turned too far
 ELSE = {"noWords": "illegal_words", "noHalves": "illegal_halves", "no-halves": "no_halves", "digitsOf": "digits_of", "inRange": "in_range", "x_Fits": "x_fits", "is_IsWord": "is_word"}
-STD = glob.glob("/opt/rattle/rattle/std/*.md") + glob.glob("/opt/rattle/rattle/std/lemmas/**/*.md", recursive=True)
 
 
 def read(p):
@@ -56,6 +54,27 @@ def move_contracts():
             write(p, head + "#![tactic(auto)]\n" + ("" if text[len(head) :].startswith("\n") else "\n") + text[len(head) :])
 
 
+def record_fields(text):
+    """The fields that the text's records declare: `record R : Type 0 where`, and the lines further in."""
+    found, inside = set(), None
+    for line in text.split("\n"):
+        indent = len(line) - len(line.lstrip())
+        if re.match(r" *(?:pub )?record .* where$", line):
+            inside = indent
+        elif inside is not None and line.strip():
+            m = re.match(r" +(?:pub )?([a-z][^\s(){},;.:]*) : ", line)
+            if indent <= inside:
+                inside = None
+            elif m:
+                found.add(m.group(1))
+    return found
+
+
+def proofs_of_statements(text):
+    """`pub stays-a-row : StaysARow`: a proof has its statement's name, in small letters."""
+    return {m.group(1) for m in re.finditer(r"^pub (\S+) : ([A-Z]\w*)$", text, re.M) if re.sub("[-_]", "", m.group(1)).lower() == m.group(2).lower()}
+
+
 def main():
     move_contracts()
     lemmas = sorted(glob.glob("crates/*/proofs/*.antt"))
@@ -73,15 +92,14 @@ def main():
                 group.add(m.group(1))
                 if m.group(2) and re.match(r"^\s*(pub )?\w", m.group(0)):
                     group.update(m.group(2).split())
-    known = set()
-    for p in STD:
-        known.update(TOKEN.findall(read(p)))
-    known |= {t for t in tokens if "-" not in t and (t in in_specs)}
+    # what a dash may join: definitions, the repository's own and those of the kit that it imports
+    known = {t for p in lemmas + specs + others for m in re.finditer(r"use [^{\n]*\{([^}]*)\}", texts[p]) for t in TOKEN.findall(m.group(1)) if "-" not in t and t not in in_proofs}
     known |= {snake(t) for t in in_specs if "-" not in t}
+    plain = set().union(*(record_fields(texts[p]) | proofs_of_statements(texts[p]) for p in lemmas + specs))
     turned, clash = {}, []
     for name in sorted(in_specs | in_proofs):
         parts = name.split("-")
-        if name in in_specs or len(parts) == 1 or not all(snake(x) in known or x in known for x in parts if x):
+        if name in in_specs or name in plain or len(parts) == 1 or not all(snake(x) in known or x in known for x in parts if x):
             new = "_".join(snake(x) for x in parts)
         else:
             new = "-".join(x if x[:1].isupper() else snake(x) for x in parts)
@@ -104,12 +122,22 @@ def main():
     for old in sorted(set(clash) - set(ELSE)):
         print(f"left: {old} -> {turned.pop(old)}: taken")
 
-    def turn(text):
-        return TOKEN.sub(lambda m: turned.get(m.group(0), m.group(0)), text)
+    fields = set().union(*(record_fields(texts[p]) for p in lemmas + specs))
+
+    def turn(text, steps=False):
+        """In a function's proof what follows a dot is a step of the code, unless it is a field of a record."""
+
+        def one(m):
+            name = m.group(0)
+            if steps and text[m.start() - 1 : m.start()] == "." and name not in fields:
+                return name
+            return turned.get(name, name)
+
+        return TOKEN.sub(one, text)
 
     n = 0
     for p, text in texts.items():
-        new = re.sub(r"`[^`\n]*`", lambda m: turn(m.group(0)), text) if p.endswith(".md") else turn(text)
+        new = re.sub(r"`[^`\n]*`", lambda m: turn(m.group(0)), text) if p.endswith(".md") else turn(text, p in others)
         if new != text:
             write(p, new)
             n += 1

@@ -2,7 +2,7 @@
 use Prim.Native.Nat.{ℕ, ◌*◌, ◌^◌, ◌<◌}
 use native.Mathlib.Omega.{arith}
 use mathlib.Core.Path.{◌≡◌, sym, ◌∙◌}
-use Rattle.word.proofs.Signs.{sext-lt}
+use Rattle.word.proofs.Signs.{sext_lt}
 use Rattle.isa.specs.declared.LoadOp.{LoadOp}
 use Rattle.isa.specs.declared.LoadOp.TheVariants.{Lb, Lh, Lw, Lbu, Lhu}
 use Rattle.octets.specs.Widths.{width_bytes}
@@ -16,8 +16,8 @@ place_is a width_bytes width place found = rw (← width) (sym place ∙ found)
 
 -- what a load of so many bytes gives the register
 pub extended_lt : (o : LoadOp) (v : ℕ) → v < 2 ^ (8 * width_bytes (load_width o)) → extended o v < 2 ^ 32
-extended_lt Lb v h = sext-lt 8 v (omega arith) (omega arith) h
-extended_lt Lh v h = sext-lt 16 v (omega arith) (omega arith) h
+extended_lt Lb v h = sext_lt 8 v (omega arith) (omega arith) h
+extended_lt Lh v h = sext_lt 16 v (omega arith) (omega arith) h
 extended_lt Lw v h = h
 extended_lt Lbu v h = omega arith
 extended_lt Lhu v h = omega arith

@@ -22,11 +22,11 @@ low-plain h = to_z_pos w64 (omega arith)
 
 -- ---- a register's value as an operand
 module _ {a : ℕ} (h : Fits w32 a) where
-  pub signed-in-range : SFits w32 (signed 32 a)
-  signed-in-range = sfits_to_z h
+  pub signed_in_range : SFits w32 (signed 32 a)
+  signed_in_range = sfits_to_z h
 
   pub operand : SFits w64 (signed 32 a)
-  operand = sfits_widen tt signed-in-range
+  operand = sfits_widen tt signed_in_range
 
   plain : SFits w64 (pos a)
   plain = omega arith
@@ -38,22 +38,22 @@ module _ {a : ℕ} (h : Fits w32 a) where
   at_plain = held plain
 
   signed_abs : nat_abs (signed 32 a) ≤ 2 ^ 31
-  signed_abs = nat_abs-le (signed 32 a) signed-in-range.sfits
+  signed_abs = nat_abs-le (signed 32 a) signed_in_range.sfits
 
-  pub signed-small : nat_abs (signed 32 a) < 2 ^ 32
-  signed-small = lt_of_le_of_lt signed_abs (lit< tt)
+  pub signed_small : nat_abs (signed 32 a) < 2 ^ 32
+  signed_small = lt_of_le_of_lt signed_abs (lit< tt)
 
 -- ---- a register's value, shifted right
 module _ {a : ℕ} (h : Fits w32 a) (m : ℕ) where
   pub shift_fits : SFits w64 (shr_z (signed 32 a) m)
-  shift_fits = sfits_widen tt (shifts w32 m (signed-in-range h))
+  shift_fits = sfits_widen tt (shifts w32 m (signed_in_range h))
 
   pub shifted : {x : ℤ} → x ≡ signed 32 a → to_z w32 (of_z w32 (shr_z (to_z w32 (of_z w32 x)) m)) ≡ shr_z (signed 32 a) m
-  shifted e = held (shifts w32 m (signed-in-range h)) (ap (λ (y : ℤ). shr_z y m) (held (signed-in-range h) e))
+  shifted e = held (shifts w32 m (signed_in_range h)) (ap (λ (y : ℤ). shr_z y m) (held (signed_in_range h) e))
 
 -- a shift by the low bits
-pub amount-lt : (b m : ℕ) → T (ltb m 32) → bit_and b m < 32
-amount-lt b m t = lt_of_le_of_lt (and_le_r b m) (lit< t)
+pub amount_lt : (b m : ℕ) → T (ltb m 32) → bit_and b m < 32
+amount_lt b m t = lt_of_le_of_lt (and_le_r b m) (lit< t)
 
 -- ---- the low bits
 mask64 : (z : ℤ) → SFits w64 z → of_z w64 z % 2 ^ 32 ≡ low_bits 32 z
@@ -97,12 +97,12 @@ pub upper_of : {x y p q : ℤ} → x ≡ p → y ≡ q → SFits w64 (p *ℤ q) 
 upper_of d e h = rw (d, e, to_z-of_z h, to_z-of_z (shifts w64 (2 ^ 32) h))
 
 -- the low bits of an operation on two signed operands
-pub result-of : (f : ℤ → ℤ → ℤ) {a b : ℕ} → Fits w32 a → Fits w32 b → {x y : ℤ} → x ≡ signed 32 a → y ≡ signed 32 b → SFits w64 (f (signed 32 a) (signed 32 b)) → low_bits 32 (to_z w64 (of_z w64 (f (to_z w64 (of_z w64 x)) (to_z w64 (of_z w64 y))))) ≡ low_bits 32 (f (signed 32 a) (signed 32 b))
-result-of f ha hb d e h = rw (at-signed ha d, at-signed hb e, to_z-of_z h)
+pub result_of : (f : ℤ → ℤ → ℤ) {a b : ℕ} → Fits w32 a → Fits w32 b → {x y : ℤ} → x ≡ signed 32 a → y ≡ signed 32 b → SFits w64 (f (signed 32 a) (signed 32 b)) → low_bits 32 (to_z w64 (of_z w64 (f (to_z w64 (of_z w64 x)) (to_z w64 (of_z w64 y))))) ≡ low_bits 32 (f (signed 32 a) (signed 32 b))
+result_of f ha hb d e h = rw (at-signed ha d, at-signed hb e, to_z-of_z h)
 
 -- the product of two numbers of k bits
-pub product-below : (k : ℕ) {a b : ℕ} → a < 2 ^ k → b < 2 ^ k → a * b < 2 ^ (k + k)
-product-below k {a} {b} ha hb =
+pub product_below : (k : ℕ) {a b : ℕ} → a < 2 ^ k → b < 2 ^ k → a * b < 2 ^ (k + k)
+product_below k {a} {b} ha hb =
     subst⁻¹ (λ (n : ℕ). a * b < n) (pow-add 2 k k)
     (lt_of_le_of_lt (mul-le-mul_left a (le_of_lt hb)) (mul-lt-mul_of_pos_right ha (pow_pos k)))
 

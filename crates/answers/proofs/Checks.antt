@@ -7,14 +7,14 @@ use Rattle.answers.specs.declared.Check.{Check}
 use Rattle.answers.specs.declared.Check.TheVariants.{Passed, Refused}
 
 -- a chain that passed: the first test holds, and the others passed
-pub both-passed : (b : Bool) (r : Refusal) (rest : Check) → unless b r rest ≡ Passed → (b ≡ true) × (rest ≡ Passed)
-both-passed true r rest e = (refl, e)
-both-passed false r rest e = (cc, cc)
+pub both_passed : (b : Bool) (r : Refusal) (rest : Check) → unless b r rest ≡ Passed → (b ≡ true) × (rest ≡ Passed)
+both_passed true r rest e = (refl, e)
+both_passed false r rest e = (cc, cc)
 
 -- a chain that is refused, or that passed, where what follows the test is carried on from c to d
-pub refused-on : (b : Bool) (p : Refusal) {c d : Check} {r : Refusal} → (c ≡ Refused r → d ≡ Refused r) → unless b p c ≡ Refused r → unless b p d ≡ Refused r
-refused-on true p f e = f e
-refused-on false p f e = e
+pub refused_on : (b : Bool) (p : Refusal) {c d : Check} {r : Refusal} → (c ≡ Refused r → d ≡ Refused r) → unless b p c ≡ Refused r → unless b p d ≡ Refused r
+refused_on true p f e = f e
+refused_on false p f e = e
 
 pub passed_on : (b : Bool) (p : Refusal) {c d q : Check} → (c ≡ Passed → d ≡ q) → unless b p c ≡ Passed → unless b p d ≡ q
 passed_on true p f e = f e

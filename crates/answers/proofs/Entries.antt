@@ -9,7 +9,7 @@ use Rattle.answers.specs.Answer.{Answer, given, refused_with, refused}
 use Rattle.answers.specs.Refusals.{number_of, word_of}
 use Rattle.answers.specs.Outcomes.{Outcome, outcome, decided}
 use Rattle.answers.specs.Entries.{Refuses, Keeps, Silent, SilentButWord}
-use Rattle.answers.proofs.Numbers.{number-of-one, three-tells}
+use Rattle.answers.proofs.Numbers.{number_of_one, three_tells}
 use Rattle.answers.proofs.Order.{apart, same_number, RefusedBy, Says}
 use Rattle.answers.specs.declared.Refusal.{Refusal}
 use Rattle.answers.specs.declared.Check.{Check}
@@ -27,7 +27,7 @@ is-given refusal before found e h = rw (← found, e) h
 
 -- a check that is never refused with 3 tells no word
 untold : (c : Check) {n : ℕ} (r : Refusal) → number_of r ≡ n → RefusedBy c n → (RefusedBy c 3 → ⊥) → word_of r ≡ none
-untold c r e by never = ⊎_elim (λ f. absurd (never (subst (RefusedBy c) (sym e ∙ f.0) by))) (λ z. z.1) (three-tells r)
+untold c r e by never = ⊎_elim (λ f. absurd (never (subst (RefusedBy c) (sym e ∙ f.0) by))) (λ z. z.1) (three_tells r)
 
 -- `refusal` answers a refusal, which `read` reads as its number
 module _ {A B C : Type 0} (read : A → Answer C) (refusal : Refusal → A) (reads : (r : Refusal) → read (refusal r) ≡ refused r) where
@@ -44,10 +44,10 @@ module _ {A B C : Type 0} (read : A → Answer C) (refusal : Refusal → A) (rea
   accepts Passed o before e = (λ f. refl, λ p n t. apart (sym e ∙ t))
   accepts (Refused r) o before e = (λ f. absurd (f (number_of r) (reads r)), λ p n t. let z : ◌≡◌ {A = ℕ} 0 1 = cc in omega arith)
 
-  pub keeps-lent : (c : Check) (o : Outcome A B) (before : B) {v : C} → read o.answer ≡ given v → Keeps read (decided c o refusal before) before
+  pub keeps_lent : (c : Check) (o : Outcome A B) (before : B) {v : C} → read o.answer ≡ given v → Keeps read (decided c o refusal before) before
   unfolding decided
-  keeps-lent Passed o before e n t = absurd (apart (sym e ∙ t))
-  keeps-lent (Refused r) o before e n t = refl
+  keeps_lent Passed o before e n t = absurd (apart (sym e ∙ t))
+  keeps_lent (Refused r) o before e n t = refl
 
   -- the refusal that it was
   pub refused_as : (c : Check) (o : Outcome A B) (before : B) {v : C} (n : ℕ) → read o.answer ≡ given v → read (decided c o refusal before).answer ≡ refused_with n
@@ -69,7 +69,7 @@ module _ {A B C : Type 0} (read : A → Answer C) (refusal : Refusal → A) (rea
       let p = refused_as (c i) (o i) (before i) n (e i) s in
       let q = refused_as (c j) (o j) (before j) n (e j) t in
       let one : word_of p.0 ≡ word_of q.0 = untold (c i) p.0 p.2 p.3 (never i) ∙ sym (untold (c j) q.0 q.2 q.3 (never j)) in
-      p.1 ∙ ap refusal (number-of-one (p.2 ∙ sym q.2) one) ∙ sym q.1
+      p.1 ∙ ap refusal (number_of_one (p.2 ∙ sym q.2) one) ∙ sym q.1
 
   pub silent_but_word : (word : A → Option ℕ) → ((r : Refusal) → word (refusal r) ≡ word_of r) → {I : Type 0} (c : I → Check) (o : I → Outcome A B) (before : I → B) (v : I → C)
       → ((i : I) → read (o i).answer ≡ given (v i)) → SilentButWord read word (λ i. decided (c i) (o i) refusal (before i))
@@ -78,5 +78,5 @@ module _ {A B C : Type 0} (read : A → Answer C) (refusal : Refusal → A) (rea
       let q = refused_as (c j) (o j) (before j) n (e j) t in
       let w : n ≡ 3 → word_of p.0 ≡ word_of q.0 = λ three. sym (ap word p.1 ∙ tells p.0) ∙ same three ∙ ap word q.1 ∙ tells q.0 in
       let one : word_of p.0 ≡ word_of q.0 =
-      ⊎_elim (λ f. w (sym p.2 ∙ f.0)) (λ z. ⊎_elim (λ g. w (sym q.2 ∙ g.0)) (λ y. z.1 ∙ sym y.1) (three-tells q.0)) (three-tells p.0) in
-      p.1 ∙ ap refusal (number-of-one (p.2 ∙ sym q.2) one) ∙ sym q.1
+      ⊎_elim (λ f. w (sym p.2 ∙ f.0)) (λ z. ⊎_elim (λ g. w (sym q.2 ∙ g.0)) (λ y. z.1 ∙ sym y.1) (three_tells q.0)) (three_tells p.0) in
+      p.1 ∙ ap refusal (number_of_one (p.2 ∙ sym q.2) one) ∙ sym q.1

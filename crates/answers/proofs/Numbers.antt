@@ -19,8 +19,8 @@ use Rattle.answers.specs.Stops.{stop_number, last_stop}
 abbrev Numbered : {A : Type 0} → (A → ℕ) → (ℕ → A) → ℕ → ℕ → A → Type 0
 Numbered number back least most a = (back (number a) ≡ a) × (least ≤ number a) × (number a ≤ most)
 
-one-to-one : {A : Type 0} (number : A → ℕ) (back : ℕ → A) → ((a : A) → back (number a) ≡ a) → {a b : A} → number a ≡ number b → a ≡ b
-one-to-one number back f {a} {b} e = sym (f a) ∙ ap back e ∙ f b
+one_to_one : {A : Type 0} (number : A → ℕ) (back : ℕ → A) → ((a : A) → back (number a) ≡ a) → {a b : A} → number a ≡ number b → a ≡ b
+one_to_one number back f {a} {b} e = sym (f a) ∙ ap back e ∙ f b
 
 -- ---- refusals, from 1
 
@@ -50,27 +50,27 @@ refusal-numbered R.RecordEnd = (refl, lit≤ tt, lit≤ tt)
 refusal-numbered R.MasksShare = (refl, lit≤ tt, lit≤ tt)
 
 -- two refusals with one number, that tell one word, are one
-pub number-of-one : {p q : Refusal} → number_of p ≡ number_of q → word_of p ≡ word_of q → p ≡ q
-number-of-one {p} {q} e w = sym (refusal-numbered p).0 ∙ ap (refusal_of (word_of p)) e ∙ rw w (refusal-numbered q).0
+pub number_of_one : {p q : Refusal} → number_of p ≡ number_of q → word_of p ≡ word_of q → p ≡ q
+number_of_one {p} {q} e w = sym (refusal-numbered p).0 ∙ ap (refusal_of (word_of p)) e ∙ rw w (refusal-numbered q).0
 
 -- 3 tells a word, and no other does
-pub three-tells : (r : Refusal) → ((number_of r ≡ 3) × ((before : ℕ) → placed (word_of r) before ≡ placed (word_of r) 0)) ⊎ ((number_of r ≡ 3 → ⊥) × (word_of r ≡ none))
-three-tells R.MemoryTooLong = inr (λ e. omega arith, refl)
-three-tells R.RowLength = inr (λ e. omega arith, refl)
-three-tells (R.RowRecord k) = inl (refl, λ before. refl)
-three-tells R.Slot = inr (λ e. omega arith, refl)
-three-tells R.OddPc = inr (λ e. omega arith, refl)
-three-tells R.Room = inr (λ e. omega arith, refl)
-three-tells R.NoInstruction = inr (λ e. omega arith, refl)
-three-tells R.Field = inr (λ e. omega arith, refl)
-three-tells R.NoShortForm = inr (λ e. omega arith, refl)
-three-tells R.Unreadable = inr (λ e. omega arith, refl)
-three-tells R.NumberNotAllowed = inr (λ e. omega arith, refl)
-three-tells R.NoShortLine = inr (λ e. omega arith, refl)
-three-tells R.OutputRoom = inr (λ e. omega arith, refl)
-three-tells R.StopNumber = inr (λ e. omega arith, refl)
-three-tells R.RecordEnd = inr (λ e. omega arith, refl)
-three-tells R.MasksShare = inr (λ e. omega arith, refl)
+pub three_tells : (r : Refusal) → ((number_of r ≡ 3) × ((before : ℕ) → placed (word_of r) before ≡ placed (word_of r) 0)) ⊎ ((number_of r ≡ 3 → ⊥) × (word_of r ≡ none))
+three_tells R.MemoryTooLong = inr (λ e. omega arith, refl)
+three_tells R.RowLength = inr (λ e. omega arith, refl)
+three_tells (R.RowRecord k) = inl (refl, λ before. refl)
+three_tells R.Slot = inr (λ e. omega arith, refl)
+three_tells R.OddPc = inr (λ e. omega arith, refl)
+three_tells R.Room = inr (λ e. omega arith, refl)
+three_tells R.NoInstruction = inr (λ e. omega arith, refl)
+three_tells R.Field = inr (λ e. omega arith, refl)
+three_tells R.NoShortForm = inr (λ e. omega arith, refl)
+three_tells R.Unreadable = inr (λ e. omega arith, refl)
+three_tells R.NumberNotAllowed = inr (λ e. omega arith, refl)
+three_tells R.NoShortLine = inr (λ e. omega arith, refl)
+three_tells R.OutputRoom = inr (λ e. omega arith, refl)
+three_tells R.StopNumber = inr (λ e. omega arith, refl)
+three_tells R.RecordEnd = inr (λ e. omega arith, refl)
+three_tells R.MasksShare = inr (λ e. omega arith, refl)
 
 -- ---- stops, from 1
 
@@ -104,5 +104,5 @@ stop-numbered S.AlreadyBurnt = (refl, lit≤ tt, lit≤ tt)
 stop-numbered S.CountFull = (refl, lit≤ tt, lit≤ tt)
 stop-numbered S.NotOwned = (refl, lit≤ tt, lit≤ tt)
 
-pub stop-of-one : {p q : Stop} → stop_number p ≡ stop_number q → p ≡ q
-stop-of-one e = one-to-one stop_number stop_of (λ s. (stop-numbered s).0) e
+pub stop_of_one : {p q : Stop} → stop_number p ≡ stop_number q → p ≡ q
+stop_of_one e = one_to_one stop_number stop_of (λ s. (stop-numbered s).0) e

@@ -40,13 +40,13 @@ pub no_rows : Says Passed no_refusal
 no_rows n = iff_same
 
 -- a test before the others is a row before theirs
-pub then-row : (b : Bool) (r : Refusal) (rest : Check) {Holds : Type 0} {later : ℕ → Type 0} → (b ≡ false) ↔ Holds → Says rest later
+pub then_row : (b : Bool) (r : Refusal) (rest : Check) {Holds : Type 0} {later : ℕ → Type 0} → (b ≡ false) ↔ Holds → Says rest later
     → Says (unless b r rest) (refusal (number_of r) Holds later)
-then-row true r rest p q n = (
+then_row true r rest p q n = (
   λ e. inr (λ h. let z = p.1 h in let y : ◌≡◌ {A = ℕ} 0 1 = cc in omega arith, (q n).0 e),
   λ s. ⊎_elim (λ h. let z = p.1 h.0 in let y : ◌≡◌ {A = ℕ} 0 1 = cc in absurd (omega arith)) (λ h. (q n).1 h.1) s,
 )
-then-row false r rest p q n = (λ e. inl (p.0 refl, e), λ s. ⊎_elim (λ h. h.1) (λ h. absurd (h.0 (p.0 refl))) s)
+then_row false r rest p q n = (λ e. inl (p.0 refl, e), λ s. ⊎_elim (λ h. h.1) (λ h. absurd (h.0 (p.0 refl))) s)
 
 -- no refusal holds, so every test passes
 pub all_pass : (c : Check) {rows : ℕ → Type 0} → Says c rows → ((n : ℕ) → rows n → ⊥) → c ≡ Passed

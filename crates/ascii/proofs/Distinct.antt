@@ -10,7 +10,7 @@ use lib.ListN.{get_or}
 use borrow.Author.Tests.{lt-ltb, le-ltb, le-leb, leb-true, ne_eqb}
 use Rattle.word.proofs.Bools.{below}
 use Rattle.ascii.specs.Numbers.{decimal, signed_decimal}
-use Rattle.ascii.proofs.Numbers.{decimal-one, decimal-more, signed-plain, signed-minus}
+use Rattle.ascii.proofs.Numbers.{decimal_one, decimal-more, signed-plain, signed-minus}
 
 -- no byte of the text is below k
 abbrev pub from : ℕ → List ℕ → Bool
@@ -71,10 +71,10 @@ record Digits (n : ℕ) : Type 0 where
   value : read 0 (decimal n) ≡ n
   above : (k : ℕ) → k ≤ 48 → from k (decimal n) ≡ true
 
-read-last : (l : List ℕ) (d acc : ℕ) → read acc (l ++ ((48 + d) ∷ [])) ≡ read acc l * 10 + d
+read_last : (l : List ℕ) (d acc : ℕ) → read acc (l ++ ((48 + d) ∷ [])) ≡ read acc l * 10 + d
 unfolding read
-read-last [] d acc = omega arith
-read-last (b ∷ l) d acc = read-last l d (acc * 10 + (b - 48))
+read_last [] d acc = omega arith
+read_last (b ∷ l) d acc = read_last l d (acc * 10 + (b - 48))
 
 from_last : (k b : ℕ) → k ≤ b → (l : List ℕ) → from k l ≡ true → from k (l ++ (b ∷ [])) ≡ true
 from_last k b h [] e = rw (le-leb k b h)
@@ -88,12 +88,12 @@ digits zero n h = absurd (omega arith)
 digits (suc m) n h =
     ⊎_elim
     (λ (l : n < 10). record {
-      value = rw (decimal-one n l) (omega arith);
-      above = λ k g. rw (decimal-one n l, le-leb k (48 + n) (omega arith));
+      value = rw (decimal_one n l) (omega arith);
+      above = λ k g. rw (decimal_one n l, le-leb k (48 + n) (omega arith));
     })
     (λ (l : 10 ≤ n). let front = digits m (n / 10) (omega arith) in
     record {
-      value = rw (decimal-more n l, read-last, front.value) (omega arith);
+      value = rw (decimal-more n l, read_last, front.value) (omega arith);
       above = λ k g. rw (decimal-more n l) (from_last k (48 + n % 10) (omega arith) (decimal (n / 10)) (front.above k g));
     })
     (below n 10)
@@ -104,12 +104,12 @@ digits_of n = digits (suc n) n (omega arith)
 pub read-decimal : (n : ℕ) → read 0 (decimal n) ≡ n
 read-decimal n = (digits_of n).value
 
-pub decimal-from : (n : ℕ) → from 45 (decimal n) ≡ true
-decimal-from n = (digits_of n).above 45 (omega arith)
+pub decimal_from : (n : ℕ) → from 45 (decimal n) ≡ true
+decimal_from n = (digits_of n).above 45 (omega arith)
 
-pub signed-from : (n : ℕ) → from 45 (signed_decimal n) ≡ true
-signed-from n =
-    ⊎_elim (λ l. rw (signed-plain n l) (decimal-from n)) (λ g. rw (signed-minus n g) (decimal-from (2 ^ 32 - n))) (below n (2 ^ 31))
+pub signed_from : (n : ℕ) → from 45 (signed_decimal n) ≡ true
+signed_from n =
+    ⊎_elim (λ l. rw (signed-plain n l) (decimal_from n)) (λ g. rw (signed-minus n g) (decimal_from (2 ^ 32 - n))) (below n (2 ^ 31))
 
 pub number-decimal : (n : ℕ) → number (decimal n) ≡ n
 unfolding number

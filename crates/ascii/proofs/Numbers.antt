@@ -13,19 +13,19 @@ use Rattle.word.proofs.Bools.{below}
 use Rattle.ascii.specs.Numbers.{digit, decimal_by, decimal, signed_decimal, hex}
 
 -- any bound that is large enough gives the same digits
-by-same : (k j n : ℕ) → n ≤ k → n ≤ j → decimal_by k n ≡ decimal_by j n
+by_same : (k j n : ℕ) → n ≤ k → n ≤ j → decimal_by k n ≡ decimal_by j n
 unfolding decimal_by
-by-same zero zero n h g = refl
-by-same zero (suc j) n h g = let e : n ≡ 0 = omega arith in rw e
-by-same (suc k) zero n h g = let e : n ≡ 0 = omega arith in rw e
-by-same (suc k) (suc j) n h g =
-    ap (λ (l : List ℕ). cond (ltb n 10) (digit n ∷ []) (l ++ (digit (n % 10) ∷ []))) (by-same k j (n / 10) (omega arith) (omega arith))
+by_same zero zero n h g = refl
+by_same zero (suc j) n h g = let e : n ≡ 0 = omega arith in rw e
+by_same (suc k) zero n h g = let e : n ≡ 0 = omega arith in rw e
+by_same (suc k) (suc j) n h g =
+    ap (λ (l : List ℕ). cond (ltb n 10) (digit n ∷ []) (l ++ (digit (n % 10) ∷ []))) (by_same k j (n / 10) (omega arith) (omega arith))
 
 -- one digit
-pub decimal-one : (n : ℕ) → n < 10 → decimal n ≡ (48 + n) ∷ []
+pub decimal_one : (n : ℕ) → n < 10 → decimal n ≡ (48 + n) ∷ []
 unfolding decimal decimal_by
-decimal-one zero h = refl
-decimal-one (suc n) h = rw (lt-ltb (suc n) 10 h)
+decimal_one zero h = refl
+decimal_one (suc n) h = rw (lt-ltb (suc n) 10 h)
 
 -- the last digit, behind the others
 pub decimal-more : (n : ℕ) → 10 ≤ n → decimal n ≡ decimal (n / 10) ++ ((48 + n % 10) ∷ [])
@@ -34,26 +34,26 @@ decimal-more zero h = absurd (omega arith)
 decimal-more (suc n) h =
     let l : suc n % 10 < 10 = omega arith in
     rw (le-ltb (suc n) 10 h, lt-ltb (suc n % 10) 10 l)
-    (ap (λ (l : List ℕ). l ++ ((48 + suc n % 10) ∷ [])) (by-same n (suc n / 10) (suc n / 10) (omega arith) (omega arith)))
+    (ap (λ (l : List ℕ). l ++ ((48 + suc n % 10) ∷ [])) (by_same n (suc n / 10) (suc n / 10) (omega arith) (omega arith)))
 
 tenth : (k n : ℕ) → n < 10 ^ suc (suc k) → n / 10 < 10 ^ suc k
 tenth k n h = omega (arith, pow-suc 10 (suc k))
 
 -- a number below 10 ^ (k + 1) has at most k + 1 digits
-pub decimal-bound : (k n : ℕ) → n < 10 ^ suc k → length (decimal n) ≤ suc k
-decimal-bound zero n h = rw (decimal-one n h) (omega arith)
-decimal-bound (suc k) n h =
-    ⊎_elim (λ l. rw (decimal-one n l) (omega arith))
-    (λ g. rw (decimal-more n g, length-append) (omega (arith, decimal-bound k (n / 10) (tenth k n h))))
+pub decimal_bound : (k n : ℕ) → n < 10 ^ suc k → length (decimal n) ≤ suc k
+decimal_bound zero n h = rw (decimal_one n h) (omega arith)
+decimal_bound (suc k) n h =
+    ⊎_elim (λ l. rw (decimal_one n l) (omega arith))
+    (λ g. rw (decimal-more n g, length-append) (omega (arith, decimal_bound k (n / 10) (tenth k n h))))
     (below n 10)
 
 -- a number from 10 ^ k on has more than k digits
-pub decimal-least : (k n : ℕ) → 10 ^ k ≤ n → suc k ≤ length (decimal n)
-decimal-least zero n h =
-    ⊎_elim (λ l. rw (decimal-one n l) (omega arith)) (λ g. rw (decimal-more n g, length-append) (omega arith)) (below n 10)
-decimal-least (suc k) n h =
+pub decimal_least : (k n : ℕ) → 10 ^ k ≤ n → suc k ≤ length (decimal n)
+decimal_least zero n h =
+    ⊎_elim (λ l. rw (decimal_one n l) (omega arith)) (λ g. rw (decimal-more n g, length-append) (omega arith)) (below n 10)
+decimal_least (suc k) n h =
     let g : 10 ≤ n = omega (arith, pow-le-pow_right {n = 10} (lit< tt) {i = 1} {j = suc k} (omega arith)) in
-    rw (decimal-more n g, length-append) (omega (arith, decimal-least k (n / 10) (omega arith)))
+    rw (decimal-more n g, length-append) (omega (arith, decimal_least k (n / 10) (omega arith)))
 
 pub hex-length : (k n : ℕ) → length (hex k n) ≡ k
 unfolding hex

@@ -6,7 +6,7 @@ use native.Mathlib.Omega.{arith}
 use lib.ListN.{length, length-append}
 use Rattle.answers.specs.declared.Refusal.{Refusal}
 use Rattle.assembly.specs.Assembly.{Meaning, gives, faulty, meaning, Assembly, output, fault, before, assembled}
-use Rattle.assembly.proofs.Steps.{gives-long, nothing, line-then, line-faulty}
+use Rattle.assembly.proofs.Steps.{gives-long, nothing, line_then, line-faulty}
 
 -- what holds of no lines, of a first line at fault, and of a line before others, holds of every text
 module _ (P : List ℕ → Assembly → Type 0) (none : P [] (output []))
@@ -22,7 +22,7 @@ module _ (P : List ℕ → Assembly → Type 0) (none : P [] (output []))
       go ih (faulty r p) e = subst (P (b ∷ text)) (sym (line-faulty (b ∷ text) r p (omega arith) e)) (here (b ∷ text) r p (omega arith) e)
       go ih (gives bs rest) e =
           let l = gives-long (b ∷ text) bs rest e in
-          subst (P (b ∷ text)) (sym (line-then (b ∷ text) bs rest e)) (line (b ∷ text) bs rest (assembled rest) e (ih rest (omega (arith, l.0, l.1))))
+          subst (P (b ∷ text)) (sym (line_then (b ∷ text) bs rest e)) (line (b ∷ text) bs rest (assembled rest) e (ih rest (omega (arith, l.0, l.1))))
 
   pub by_lines : (text : List ℕ) → P text (assembled text)
   by_lines text = by_length (length text) text (omega arith)

@@ -12,9 +12,9 @@ use Rattle.answers.specs.declared.Refusal.TheVariants as R
 use Rattle.ascii.specs.Rooms.{Wrote}
 use Rattle.ascii.proofs.Rooms.{then, nothing, at_front}
 use Rattle.octets.specs.Bytes.{little_endian, store}
-use Rattle.octets.proofs.Bytes.{length-le, length-store}
+use Rattle.octets.proofs.Bytes.{length_le, length-store}
 use Rattle.assembly.specs.Assembly.{Assembly, output, fault, before, gives, meaning, assembled}
-use Rattle.assembly.proofs.Steps.{gives-long, line-then, line-faulty}
+use Rattle.assembly.proofs.Steps.{gives-long, line_then, line-faulty}
 use Rattle.assembly.proofs.Steps as steps
 use Rattle.coder.specs.declared.Coded.{Coded}
 use Rattle.coder.specs.declared.Coded.TheVariants.{Code, Refused as Coded-as-Refused}
@@ -41,10 +41,10 @@ step text at size v end h e w =
     let a = length-drop at text in
     record {
       sized = w.0;
-      some = omega (arith, g.0, length-le size v);
-      long = omega (arith, w.1, g.1, length-le size v, a, length-drop end (drop at text));
+      some = omega (arith, g.0, length_le size v);
+      long = omega (arith, w.1, g.1, length_le size v, a, length-drop end (drop at text));
       within = omega (arith, w.1, a);
-      is = line-then (drop at text) (little_endian size v) (drop end (drop at text)) (sym e) ∙ ap (λ (l : List ℕ). before (little_endian size v) (assembled l)) (drop-drop end at text);
+      is = line_then (drop at text) (little_endian size v) (drop end (drop at text)) (sym e) ∙ ap (λ (l : List ℕ). before (little_endian size v) (assembled l)) (drop-drop end at text);
     }
 
 pub at-end : (text : List ℕ) (at : ℕ) → length text ≤ at → assembled (drop at text) ≡ output []
@@ -82,7 +82,7 @@ module _ (text : List ℕ) (at n l : ℕ) where
   pub measures_on : {size v end : ℕ} → Step text at size v end → measured n l (assembled (drop at text)) ≡ measured (n + size) (l + 1) (assembled (drop (at + end) text))
   measures_on {size} {v} {end} s =
       ap (measured n l) s.is ∙ measured-before n l (little_endian size v) (assembled (drop (at + end) text))
-      ∙ ap (λ (k : ℕ). measured (n + k) (l + 1) (assembled (drop (at + end) text))) (length-le size v)
+      ∙ ap (λ (k : ℕ). measured (n + k) (l + 1) (assembled (drop (at + end) text))) (length_le size v)
 
   pub measures_fault : (r : Refusal) (p : ℕ) → assembled (drop at text) ≡ fault r 0 p → Refused r l p ≡ measured n l (assembled (drop at text))
   measures_fault r p e =
@@ -100,7 +100,7 @@ module _ (text : List ℕ) (at n l : ℕ) where
 stored : (size a v : ℕ) (room : List ℕ) → a + size ≤ length room → Wrote room a (little_endian size v) (store size a v room) (a + size)
 unfolding store
 stored size a v room h =
-    let e = length-le size v in
+    let e = length_le size v in
     record {
       room = sym (sets-eq (little_endian size v) room a (omega arith) ∙ ap (λ (k : ℕ). take a room ++ little_endian size v ++ drop (a + k) room) e);
       next = ap (λ (k : ℕ). a + k) (sym e);
@@ -127,7 +127,7 @@ module _ (text room₀ room : List ℕ) (at n : ℕ) (left : Left text room₀ r
       go (assembled (drop (at + end) text)) f
     where
       go : (a : Assembly) → Fits (length room₀) (n + length (little_endian size v)) a → n + size ≤ length room
-      go (output out) h = omega (arith, left.0, length-le size v)
+      go (output out) h = omega (arith, left.0, length_le size v)
       go (fault r k p) h = absurd h
 
   pub left_after : {size v end : ℕ} (after : List ℕ) → Step text at size v end → after ≡ store size n v room → Left text room₀ after (at + end) (n + size)
@@ -136,7 +136,7 @@ module _ (text room₀ room : List ℕ) (at n : ℕ) (left : Left text room₀ r
       let f = fits-before (length room₀) n (little_endian size v) rest (subst (Fits (length room₀) n) s.is left.1) in
       let w : Wrote room n (little_endian size v) after (n + size) = subst (λ (l : List ℕ). Wrote room n (little_endian size v) l (n + size)) (sym e) (stored size n v room (fits-here s)) in (
         ap length e ∙ length-store size n v room (fits-here s) ∙ left.0,
-        subst (λ (k : ℕ). Fits (length room₀) (n + k) rest) (length-le size v) f.0,
+        subst (λ (k : ℕ). Fits (length room₀) (n + k) rest) (length_le size v) f.0,
         λ r m o. left.2 r m (subst (λ (l : List ℕ). Wrote room n l r m) (sym (ap bytes_of s.is ∙ f.1)) (then w o)),
       )
 
@@ -176,9 +176,9 @@ module _ (text room : List ℕ) where
             let x : n ≡ 0 + length out = cc in
             (out, z, omega arith)
 
-    pub small-room : length room < n → outcome (Refused R.OutputRoom 0 0) room ≡ assemble_entry text room
+    pub small_room : length room < n → outcome (Refused R.OutputRoom 0 0) room ≡ assemble_entry text room
     unfolding decided
-    small-room h =
+    small_room h =
         let o = lengthened in
         rw (o.1, lt-leb (length o.0) (length room) (omega (arith, o.2)))
 

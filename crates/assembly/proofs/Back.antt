@@ -19,17 +19,17 @@ use Rattle.isa.specs.Encoding.{in_range, word_of}
 use Rattle.isa.specs.Rvc.{expanded}
 use Rattle.octets.specs.Bytes.{little_endian}
 use Rattle.roundtrip.proofs.Same.{back}
-use Rattle.roundtrip.proofs.Words.{encode_decode, decoded-in-range}
+use Rattle.roundtrip.proofs.Words.{encode_decode, decoded_in_range}
 use Rattle.shortest.specs.Trial.{tried}
-use Rattle.shortest.proofs.Shortest.{Shortest, expanded-in-range, shortened-one, shortened-is}
+use Rattle.shortest.proofs.Shortest.{Shortest, expanded_in_range, shortened_one, shortened-is}
 use Rattle.text.specs.Text.{text_of, short_text_of}
 use Rattle.assembly.specs.Lines.{Piece, byte, field, shape, is_number, Word, word, Spelled, end, same, number}
 use Rattle.assembly.specs.Scanner.{reads, line_at}
 use Rattle.assembly.specs.Numbers.{value_of, plain, fits, holds_imm, allowed, Checked, right, checked, after, value}
 use Rattle.assembly.specs.Assembly.{instruction, gives, half_of, code_of, unless_wrong, meaning_of, meaning}
-use Rattle.assembly.proofs.Numerals.{shown, Back, shown-back}
+use Rattle.assembly.proofs.Numerals.{shown, Back, shown_back}
 use Rattle.assembly.proofs.Places.{line_reads}
-use Rattle.assembly.proofs.Forms.{still, still-is, range-is, wide, env, rendered, text_for, text_rendered, has, all-absent, operation-lt}
+use Rattle.assembly.proofs.Forms.{still, still_is, range_is, wide, env, rendered, text_for, text_rendered, has, all_absent, operation_lt}
 
 -- ---- the numbers of a rendered shape
 
@@ -72,10 +72,10 @@ checked-words k (field g ∷ s) n e h = rw (is_true (allowed k (word g n (shown 
 
 module _ (i : Inst) (h : T (in_range i)) where
   registers : T (registers_ok (parts_of i))
-  registers = ((range-is i).0 h).0
+  registers = ((range_is i).0 h).0
 
   stilled : T (in_range (still i))
-  stilled = ((range-is i).0 h).1
+  stilled = ((range_is i).0 h).1
 
   small : (g : ℕ) → eqb g 4 ≡ false → env (parts_of i) g < 32
   small g q = go (eqb g 1) (eqb g 2) (eqb g 3) (eqb g 4) q
@@ -94,7 +94,7 @@ module _ (i : Inst) (h : T (in_range i)) where
 
   backs : (g : ℕ) → Back g (shown g (env (parts_of i) g)) (env (parts_of i) g)
   backs g =
-      shown-back g (env (parts_of i) g) (λ q. rw (eqb-true g 4 q) (wide i stilled))
+      shown_back g (env (parts_of i) g) (λ q. rw (eqb-true g 4 q) (wide i stilled))
       (λ q. omega (arith, small g q))
 
   allows : (g n : ℕ) → T (allowed (parts_of i).operation (word g n (shown g (env (parts_of i) g))))
@@ -104,7 +104,7 @@ module _ (i : Inst) (h : T (in_range i)) where
       (and_both (fits g (shown g (env (parts_of i) g))) _ b.fit (rw b.value (go (eqb g 4) refl)))
     where
       go : (t : Bool) → eqb g 4 ≡ t → T (cond t (holds_imm (parts_of i).operation (env (parts_of i) g)) (ltb (env (parts_of i) g) 32))
-      go true q = rw (eqb-true g 4 q, still-is i) stilled
+      go true q = rw (eqb-true g 4 q, still_is i) stilled
       go false q = lt→ltb (env (parts_of i) g) 32 (small g q)
 
   module _ (c : Bool) where
@@ -123,7 +123,7 @@ module _ (i : Inst) (h : T (in_range i)) where
     unfolding instruction
     instruction-is =
         let s = shape c (parts_of i).operation in
-        let t = all-absent c i in
+        let t = all_absent c i in
         let t₂ = and_right (has 1 s || eqb (parts_of i).rd 0) _ t in
         let t₃ = and_right (has 2 s || eqb (parts_of i).rs1 0) _ t₂ in
         rw (
@@ -139,7 +139,7 @@ module _ (i : Inst) (h : T (in_range i)) where
     line-is t =
         let s = shape c (parts_of i).operation in
         ap line_at (sym (append_assoc (text_for c i) (10 ∷ []) t) ∙ ap (λ (l : List ℕ). l ++ t) (sym (text_rendered c i stilled)))
-        ∙ line_reads c (parts_of i).operation (operation-lt i) (spelled s 0 (env (parts_of i)) (λ g. (backs g).number)) t
+        ∙ line_reads c (parts_of i).operation (operation_lt i) (spelled s 0 (env (parts_of i)) (λ g. (backs g).number)) t
 
     -- the text of i, with c: or without, gives the code of i
     pub meaning-is : (t : List ℕ) → meaning (text_for c i ++ (10 ∷ t)) ≡ code_of c i t
@@ -153,7 +153,7 @@ module _ (i : Inst) (h : T (in_range i)) where
 -- THE WORD OF A LEGAL INSTRUCTION, listed and read back, gives its own bits
 pub word_back : (w : ℕ) (i : Inst) (t : List ℕ) → w < 2 ^ 32 → decoded w ≡ Legal i → meaning (text_of i ++ (10 ∷ t)) ≡ gives (little_endian 4 w) t
 word_back w i t l e =
-    let r : in_range i ≡ true = decoded-in-range w i e in
+    let r : in_range i ≡ true = decoded_in_range w i e in
     let b : Bits (word_of i) ≡ Bits w = sym (ap (λ (b : Bool). cond b (Bits (word_of i)) OutOfRange) r) ∙ encode_decode w i l e in
     let q : word_of i ≡ w = cc in
     meaning-is i (holds _ r) false t ∙ ap (λ (w : ℕ). gives (little_endian 4 w) t) q
@@ -163,5 +163,5 @@ pub half_back : (h : ℕ) (i : Inst) (t : List ℕ) → h < 2 ^ 16 → expanded 
     → (k : ℕ) × Shortest i k × (meaning (short_text_of i ++ (10 ∷ t)) ≡ gives (little_endian 2 k) t)
 half_back h i t l e =
     let k : ℕ = tried (parts_of i) in
-    let q = shortened-one i h l e in
-    (k, shortened-is i k q, meaning-is i (holds _ (expanded-in-range h i l e)) true t ∙ ap (λ (s : Shortened). half_of s t) q)
+    let q = shortened_one i h l e in
+    (k, shortened-is i k q, meaning-is i (holds _ (expanded_in_range h i l e)) true t ∙ ap (λ (s : Shortened). half_of s t) q)

@@ -48,56 +48,56 @@ still Ecall = Ecall
 still Ebreak = Ebreak
 still (MulDiv o rd rs1 rs2) = MulDiv o x0 x0 x0
 
-still-parts : (i : Inst) → parts (parts_of i).operation 0 0 0 (parts_of i).imm ≡ parts_of (still i)
+still_parts : (i : Inst) → parts (parts_of i).operation 0 0 0 (parts_of i).imm ≡ parts_of (still i)
 unfolding still
-still-parts (Lui rd v) = refl
-still-parts (Auipc rd v) = refl
-still-parts (Jal rd v) = refl
-still-parts (Jalr rd rs1 v) = refl
-still-parts (Branch o rs1 rs2 v) = refl
-still-parts (Load o rd rs1 v) = refl
-still-parts (Store o rs1 rs2 v) = refl
-still-parts (Imm o rd rs1 v) = refl
-still-parts (Shift o rd rs1 v) = refl
-still-parts (Arith o rd rs1 rs2) = refl
-still-parts (Fence rd rs1 v) = refl
-still-parts Ecall = refl
-still-parts Ebreak = refl
-still-parts (MulDiv o rd rs1 rs2) = refl
+still_parts (Lui rd v) = refl
+still_parts (Auipc rd v) = refl
+still_parts (Jal rd v) = refl
+still_parts (Jalr rd rs1 v) = refl
+still_parts (Branch o rs1 rs2 v) = refl
+still_parts (Load o rd rs1 v) = refl
+still_parts (Store o rs1 rs2 v) = refl
+still_parts (Imm o rd rs1 v) = refl
+still_parts (Shift o rd rs1 v) = refl
+still_parts (Arith o rd rs1 rs2) = refl
+still_parts (Fence rd rs1 v) = refl
+still_parts Ecall = refl
+still_parts Ebreak = refl
+still_parts (MulDiv o rd rs1 rs2) = refl
 
-pub still-is : (i : Inst) → built (parts (parts_of i).operation 0 0 0 (parts_of i).imm) ≡ still i
-still-is i = ap built (still-parts i) ∙ back (still i)
+pub still_is : (i : Inst) → built (parts (parts_of i).operation 0 0 0 (parts_of i).imm) ≡ still i
+still_is i = ap built (still_parts i) ∙ back (still i)
 
 -- rd; rd and rs1; rs1 and rs2
-rd-ok : (a c : Bool) → T (a && c) ↔ (T (a && (true && true)) × T c)
-rd-ok true c = (λ h. (tt, h), λ h. h.1)
-rd-ok false c = (λ h. absurd h, λ h. absurd h.0)
+rd_ok : (a c : Bool) → T (a && c) ↔ (T (a && (true && true)) × T c)
+rd_ok true c = (λ h. (tt, h), λ h. h.1)
+rd_ok false c = (λ h. absurd h, λ h. absurd h.0)
 
-rd-rs1-ok : (a b c : Bool) → T (a && (b && c)) ↔ (T (a && (b && true)) × T c)
-rd-rs1-ok true true c = (λ h. (tt, h), λ h. h.1)
-rd-rs1-ok true false c = (λ h. absurd h, λ h. absurd h.0)
-rd-rs1-ok false b c = (λ h. absurd h, λ h. absurd h.0)
+rd_rs1_ok : (a b c : Bool) → T (a && (b && c)) ↔ (T (a && (b && true)) × T c)
+rd_rs1_ok true true c = (λ h. (tt, h), λ h. h.1)
+rd_rs1_ok true false c = (λ h. absurd h, λ h. absurd h.0)
+rd_rs1_ok false b c = (λ h. absurd h, λ h. absurd h.0)
 
-rs-ok : (a b c : Bool) → T (a && (b && c)) ↔ (T (a && b) × T c)
-rs-ok true b c = (λ h. (and_left b c h, and_right b c h), λ h. and_both b c h.0 h.1)
-rs-ok false b c = (λ h. absurd h, λ h. absurd h.0)
+rs_ok : (a b c : Bool) → T (a && (b && c)) ↔ (T (a && b) × T c)
+rs_ok true b c = (λ h. (and_left b c h, and_right b c h), λ h. and_both b c h.0 h.1)
+rs_ok false b c = (λ h. absurd h, λ h. absurd h.0)
 
-pub range-is : (i : Inst) → T (in_range i) ↔ (T (registers_ok (parts_of i)) × T (in_range (still i)))
+pub range_is : (i : Inst) → T (in_range i) ↔ (T (registers_ok (parts_of i)) × T (in_range (still i)))
 unfolding in_range still
-range-is (Lui rd v) = rd-ok (reg_ok rd) (ltb v (2 ^ 20))
-range-is (Auipc rd v) = rd-ok (reg_ok rd) (ltb v (2 ^ 20))
-range-is (Jal rd v) = rd-ok (reg_ok rd) (signed_ok 21 v && even_ok v)
-range-is (Jalr rd rs1 v) = rd-rs1-ok (reg_ok rd) (reg_ok rs1) (signed_ok 12 v)
-range-is (Branch o rs1 rs2 v) = rs-ok (reg_ok rs1) (reg_ok rs2) (signed_ok 13 v && even_ok v)
-range-is (Load o rd rs1 v) = rd-rs1-ok (reg_ok rd) (reg_ok rs1) (signed_ok 12 v)
-range-is (Store o rs1 rs2 v) = rs-ok (reg_ok rs1) (reg_ok rs2) (signed_ok 12 v)
-range-is (Imm o rd rs1 v) = rd-rs1-ok (reg_ok rd) (reg_ok rs1) (signed_ok 12 v)
-range-is (Shift o rd rs1 v) = rd-rs1-ok (reg_ok rd) (reg_ok rs1) (ltb v 32)
-range-is (Arith o rd rs1 rs2) = (λ h. (h, tt), λ h. h.0)
-range-is (Fence rd rs1 v) = rd-rs1-ok (reg_ok rd) (reg_ok rs1) (ltb v (2 ^ 12))
-range-is Ecall = (λ h. (tt, tt), λ h. tt)
-range-is Ebreak = (λ h. (tt, tt), λ h. tt)
-range-is (MulDiv o rd rs1 rs2) = (λ h. (h, tt), λ h. h.0)
+range_is (Lui rd v) = rd_ok (reg_ok rd) (ltb v (2 ^ 20))
+range_is (Auipc rd v) = rd_ok (reg_ok rd) (ltb v (2 ^ 20))
+range_is (Jal rd v) = rd_ok (reg_ok rd) (signed_ok 21 v && even_ok v)
+range_is (Jalr rd rs1 v) = rd_rs1_ok (reg_ok rd) (reg_ok rs1) (signed_ok 12 v)
+range_is (Branch o rs1 rs2 v) = rs_ok (reg_ok rs1) (reg_ok rs2) (signed_ok 13 v && even_ok v)
+range_is (Load o rd rs1 v) = rd_rs1_ok (reg_ok rd) (reg_ok rs1) (signed_ok 12 v)
+range_is (Store o rs1 rs2 v) = rs_ok (reg_ok rs1) (reg_ok rs2) (signed_ok 12 v)
+range_is (Imm o rd rs1 v) = rd_rs1_ok (reg_ok rd) (reg_ok rs1) (signed_ok 12 v)
+range_is (Shift o rd rs1 v) = rd_rs1_ok (reg_ok rd) (reg_ok rs1) (ltb v 32)
+range_is (Arith o rd rs1 rs2) = (λ h. (h, tt), λ h. h.0)
+range_is (Fence rd rs1 v) = rd_rs1_ok (reg_ok rd) (reg_ok rs1) (ltb v (2 ^ 12))
+range_is Ecall = (λ h. (tt, tt), λ h. tt)
+range_is Ebreak = (λ h. (tt, tt), λ h. tt)
+range_is (MulDiv o rd rs1 rs2) = (λ h. (h, tt), λ h. h.0)
 
 -- an immediate has 32 bits
 imm_lt : (k v : ℕ) → T (leb 1 k) → T (leb k 32) → T (signed_ok k v) → v < 2 ^ 32
@@ -159,18 +159,18 @@ abbrev name_like : List ℕ → Bool
 name_like [] = true
 name_like (b ∷ l) = not (leb 49 b && leb b 52) && name_like l
 
-after-name : (n l : List ℕ) (e : ℕ → ℕ) → T (name_like n) → rendered (pieces (n ++ l)) e ≡ n ++ rendered (pieces l) e
-after-name [] l e h = refl
-after-name (b ∷ n) l e h = go (leb 49 b && leb b 52) h (after-name n l e)
+after_name : (n l : List ℕ) (e : ℕ → ℕ) → T (name_like n) → rendered (pieces (n ++ l)) e ≡ n ++ rendered (pieces l) e
+after_name [] l e h = refl
+after_name (b ∷ n) l e h = go (leb 49 b && leb b 52) h (after_name n l e)
   where
     go : (t : Bool) → T (not t && name_like n) → (T (name_like n) → rendered (pieces (n ++ l)) e ≡ n ++ rendered (pieces l) e)
         → rendered (cond t (field (b - 48)) (byte b) ∷ pieces (n ++ l)) e ≡ b ∷ (n ++ rendered (pieces l) e)
     go true h ih = absurd h
     go false h ih = ap (λ (l : List ℕ). b ∷ l) (ih h)
 
-name-like : (i : Inst) → T (name_like (name_at (parts_of i).operation))
+name_like_lem : (i : Inst) → T (name_like (name_at (parts_of i).operation))
 unfolding names name_at
-name-like i = each (λ i. name_like (name_at (parts_of i).operation)) (λ d s t v. tt) i
+name_like_lem i = each (λ i. name_like (name_at (parts_of i).operation)) (λ d s t v. tt) i
 
 -- the operands of a sample
 operand_text : Inst → List ℕ
@@ -209,20 +209,20 @@ sample-text (MulDiv o rd rs1 rs2) = refl
 regroup : (a b c d e : List ℕ) → a ++ b ++ (c ++ d) ++ e ≡ a ++ (b ++ (c ++ (d ++ e)))
 regroup a b c d e = simp append_assoc
 
-address-cut : (a b c : List ℕ)
+address_cut : (a b c : List ℕ)
     → 32 ∷ 120 ∷ (a ++ (44 ∷ (b ++ (40 ∷ 120 ∷ (c ++ (41 ∷ 10 ∷ []))))))
     ≡ (32 ∷ 120 ∷ a) ++ (44 ∷ b) ++ ((40 ∷ 120 ∷ c) ++ (41 ∷ [])) ++ (10 ∷ [])
-address-cut a b c = sym (regroup (32 ∷ 120 ∷ a) (44 ∷ b) (40 ∷ 120 ∷ c) (41 ∷ []) (10 ∷ []))
+address_cut a b c = sym (regroup (32 ∷ 120 ∷ a) (44 ∷ b) (40 ∷ 120 ∷ c) (41 ∷ []) (10 ∷ []))
 
 operands_rendered : (i : Inst) → T (in_range (still i)) → rendered (pieces (operand_text i)) (env (parts_of i)) ≡ operands_of i ++ (10 ∷ [])
 unfolding operand_text operands_of in_range still
 operands_rendered (Lui rd v) h = rw (signed-plain v (field_lt (2 ^ 20) v tt h)) (simp append_assoc)
 operands_rendered (Auipc rd v) h = rw (signed-plain v (field_lt (2 ^ 20) v tt h)) (simp append_assoc)
 operands_rendered (Jal rd v) h = simp append_assoc
-operands_rendered (Jalr rd rs1 v) h = address-cut (decimal rd.number) (signed_decimal v) (decimal rs1.number)
+operands_rendered (Jalr rd rs1 v) h = address_cut (decimal rd.number) (signed_decimal v) (decimal rs1.number)
 operands_rendered (Branch o rs1 rs2 v) h = simp append_assoc
-operands_rendered (Load o rd rs1 v) h = address-cut (decimal rd.number) (signed_decimal v) (decimal rs1.number)
-operands_rendered (Store o rs1 rs2 v) h = address-cut (decimal rs2.number) (signed_decimal v) (decimal rs1.number)
+operands_rendered (Load o rd rs1 v) h = address_cut (decimal rd.number) (signed_decimal v) (decimal rs1.number)
+operands_rendered (Store o rs1 rs2 v) h = address_cut (decimal rs2.number) (signed_decimal v) (decimal rs1.number)
 operands_rendered (Imm o rd rs1 v) h = simp append_assoc
 operands_rendered (Shift o rd rs1 v) h = rw (signed-plain v (field_lt 32 v tt h)) (simp append_assoc)
 operands_rendered (Arith o rd rs1 rs2) h = simp append_assoc
@@ -238,7 +238,7 @@ long_rendered : (i : Inst) → T (in_range (still i)) → rendered (pieces (text
 unfolding text_of
 long_rendered i h =
     rw (sample-is i) (ap (λ (l : List ℕ). rendered (pieces l) (env (parts_of i))) (sample-text i)
-    ∙ after-name (name_at (parts_of i).operation) (operand_text i) (env (parts_of i)) (name-like i)
+    ∙ after_name (name_at (parts_of i).operation) (operand_text i) (env (parts_of i)) (name_like_lem i)
     ∙ ap (λ (l : List ℕ). name_at (parts_of i).operation ++ l) (operands_rendered i h)
     ∙ sym (append_assoc (name_at (parts_of i).operation) (operands_of i) (10 ∷ [])))
 
@@ -258,19 +258,19 @@ has f (field g ∷ s) = cond (eqb f g) true (has f s)
 abbrev absent : List Piece → Parts → Bool
 absent s p = (has 1 s || eqb p.rd 0) && ((has 2 s || eqb p.rs1 0) && ((has 3 s || eqb p.rs2 0) && (has 4 s || eqb p.imm 0)))
 
-pub all-absent : (c : Bool) (i : Inst) → T (absent (shape c (parts_of i).operation) (parts_of i))
+pub all_absent : (c : Bool) (i : Inst) → T (absent (shape c (parts_of i).operation) (parts_of i))
 unfolding decimal decimal_by signed_decimal names name_at operands_of text_of short_text_of built shape
-all-absent true i = each (λ i. absent (shape true (parts_of i).operation) (parts_of i)) (λ d s t v. tt) i
-all-absent false i = each (λ i. absent (shape false (parts_of i).operation) (parts_of i)) (λ d s t v. tt) i
+all_absent true i = each (λ i. absent (shape true (parts_of i).operation) (parts_of i)) (λ d s t v. tt) i
+all_absent false i = each (λ i. absent (shape false (parts_of i).operation) (parts_of i)) (λ d s t v. tt) i
 
 -- the numbers of the fields that a shape has
 abbrev pub masked : Bool → ℕ → ℕ → ℕ → ℕ → ℕ → Parts
 masked c k d s t v = parts k (cond (has 1 (shape c k)) d 0) (cond (has 2 (shape c k)) s 0) (cond (has 3 (shape c k)) t 0) (cond (has 4 (shape c k)) v 0)
 
 -- what is found, where there is a row
-found-row : {A B : Type 0} (P : B → Type 0) (d : B) (t : List (ℕ × A)) (k : ℕ) (f : A → B) → T (find false t k (λ a. true)) → Each P t k f → P (find d t k f)
-found-row P d [] k f h e = absurd h
-found-row P d (r ∷ t) k f h e = go (λ h. found-row P d t k f h e.1) (eqb k r.0) refl h
+found_row : {A B : Type 0} (P : B → Type 0) (d : B) (t : List (ℕ × A)) (k : ℕ) (f : A → B) → T (find false t k (λ a. true)) → Each P t k f → P (find d t k f)
+found_row P d [] k f h e = absurd h
+found_row P d (r ∷ t) k f h e = go (λ h. found_row P d t k f h e.1) (eqb k r.0) refl h
   where
     go : (T (find false t k (λ a. true)) → P (find d t k f)) → (b : Bool) → eqb k r.0 ≡ b → T (cond b true (find false t k (λ a. true))) → P (cond b (f r.1) (find d t k f))
     go ih true q h = e.0 (eqb→eq k r.0 (holds _ q))
@@ -280,9 +280,9 @@ found-row P d (r ∷ t) k f h e = go (λ h. found-row P d t k f h e.1) (eqb k r.
 rowed : (d s t v k : ℕ) → k < 48 → T (find false (operations d s t v) k (λ i. true))
 rowed d s t v k h = rw (lt-ltb k 48 h) at (swept (λ k. cond (ltb k 48) (find false (operations d s t v) k (λ i. true)) true) 6 0 tt k (omega arith) (omega arith))
 
-kept-long : (k d s t v : ℕ) → k < 48 → parts_of (built (parts k d s t v)) ≡ masked false k d s t v
+kept_long : (k d s t v : ℕ) → k < 48 → parts_of (built (parts k d s t v)) ≡ masked false k d s t v
 unfolding built decimal decimal_by signed_decimal names name_at operands_of text_of short_text_of shape
-kept-long k d s t v h = found-row (λ i. parts_of i ≡ masked false k d s t v) Ecall (operations d s t v) k (λ i. i) (rowed d s t v k h)
+kept_long k d s t v h = found_row (λ i. parts_of i ≡ masked false k d s t v) Ecall (operations d s t v) k (λ i. i) (rowed d s t v k h)
     ((λ e. rw e)
     and (λ e. rw e)
     and (λ e. rw e)
@@ -335,12 +335,12 @@ kept-long k d s t v h = found-row (λ i. parts_of i ≡ masked false k d s t v) 
 
 pub kept : (c : Bool) (k d s t v : ℕ) → k < 48 → parts_of (built (parts k d s t v)) ≡ masked c k d s t v
 unfolding shape short_text_of
-kept true k d s t v h = kept-long k d s t v h
-kept false k d s t v h = kept-long k d s t v h
+kept true k d s t v h = kept_long k d s t v h
+kept false k d s t v h = kept_long k d s t v h
 
 -- an operation is known by a number below 48
-pub operation-lt : (i : Inst) → (parts_of i).operation < 48
-operation-lt i = ltb→lt _ _ (each (λ i. ltb (parts_of i).operation 48) (λ d s t v. tt) i)
+pub operation_lt : (i : Inst) → (parts_of i).operation < 48
+operation_lt i = ltb→lt _ _ (each (λ i. ltb (parts_of i).operation 48) (λ d s t v. tt) i)
 
 -- a shape has a field once, and none but 1 to 4
 abbrev pub once : List Piece → Bool

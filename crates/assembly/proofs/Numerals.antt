@@ -10,7 +10,7 @@ use lib.ListN.{length, get_or, drop}
 use borrow.Author.Tests.{eqb-true, eq-eqb, ne_eqb}
 use Rattle.word.proofs.Bools.{and_left, and_right, and_both, below}
 use Rattle.ascii.specs.Numbers.{decimal, signed_decimal}
-use Rattle.ascii.proofs.Numbers.{decimal-one, decimal-more, signed-plain, signed-minus}
+use Rattle.ascii.proofs.Numbers.{decimal_one, decimal-more, signed-plain, signed-minus}
 use Rattle.assembly.specs.Lines.{is_digit, digits_only, minus, is_number}
 use Rattle.assembly.specs.Numbers.{read, value_of, plain, fits}
 use Rattle.assembly.proofs.Runs.{no_number}
@@ -19,8 +19,8 @@ use Rattle.assembly.proofs.Runs.{no_number}
 digit-is : (d : ℕ) → d < 10 → T (is_digit (48 + d))
 digit-is d h = and_both (leb 48 (48 + d)) _ (le→leb 48 (48 + d) (omega arith)) (le→leb (48 + d) 57 (omega arith))
 
-digit-bounds : (b : ℕ) → T (is_digit b) → (48 ≤ b) × (b ≤ 57)
-digit-bounds b h = (leb→le 48 b (and_left (leb 48 b) _ h), leb→le b 57 (and_right (leb 48 b) _ h))
+digit_bounds : (b : ℕ) → T (is_digit b) → (48 ≤ b) × (b ≤ 57)
+digit_bounds b h = (leb→le 48 b (and_left (leb 48 b) _ h), leb→le b 57 (and_right (leb 48 b) _ h))
 
 -- ---- digits of a number
 
@@ -28,10 +28,10 @@ digits_last : (l : List ℕ) (b : ℕ) → T (digits_only l) → T (is_digit b) 
 digits_last [] b h g = and_both (is_digit b) true g tt
 digits_last (x ∷ l) b h g = and_both (is_digit x) _ (and_left (is_digit x) _ h) (digits_last l b (and_right (is_digit x) _ h) g)
 
-read-last : (l : List ℕ) (d acc : ℕ) → read acc (l ++ ((48 + d) ∷ [])) ≡ read acc l * 10 + d
+read_last : (l : List ℕ) (d acc : ℕ) → read acc (l ++ ((48 + d) ∷ [])) ≡ read acc l * 10 + d
 unfolding read
-read-last [] d acc = omega arith
-read-last (b ∷ l) d acc = read-last l d (acc * 10 + (b - 48))
+read_last [] d acc = omega arith
+read_last (b ∷ l) d acc = read_last l d (acc * 10 + (b - 48))
 
 -- the first digit is 0 only in the number 0
 record Digits (n : ℕ) : Type 0 where
@@ -42,23 +42,23 @@ record Digits (n : ℕ) : Type 0 where
   is : decimal n ≡ first ∷ more
   above : 0 < n → 48 < first
 
-digits-by : (m n : ℕ) → n < m → Digits n
+digits_by : (m n : ℕ) → n < m → Digits n
 unfolding read
-digits-by zero n h = absurd (omega arith)
-digits-by (suc m) n h =
+digits_by zero n h = absurd (omega arith)
+digits_by (suc m) n h =
     ⊎_elim
     (λ (l : n < 10). record {
-      only = rw (decimal-one n l) (and_both (is_digit (48 + n)) true (digit-is n l) tt);
-      back = rw (decimal-one n l) (omega arith);
+      only = rw (decimal_one n l) (and_both (is_digit (48 + n)) true (digit-is n l) tt);
+      back = rw (decimal_one n l) (omega arith);
       first = 48 + n;
       more = [];
-      is = decimal-one n l;
+      is = decimal_one n l;
       above = λ p. omega arith;
     })
-    (λ (l : 10 ≤ n). let front = digits-by m (n / 10) (omega arith) in
+    (λ (l : 10 ≤ n). let front = digits_by m (n / 10) (omega arith) in
     record {
       only = rw (decimal-more n l) (digits_last (decimal (n / 10)) (48 + n % 10) front.only (digit-is (n % 10) (omega arith)));
-      back = rw (decimal-more n l, read-last, front.back) (omega arith);
+      back = rw (decimal-more n l, read_last, front.back) (omega arith);
       first = front.first;
       more = front.more ++ ((48 + n % 10) ∷ []);
       is = rw (decimal-more n l, front.is);
@@ -67,7 +67,7 @@ digits-by (suc m) n h =
     (below n 10)
 
 abbrev digits : (n : ℕ) → Digits n
-digits n = digits-by (suc n) n (omega arith)
+digits n = digits_by (suc n) n (omega arith)
 
 -- ---- a number of digits
 
@@ -75,7 +75,7 @@ decimal-read : (l : List ℕ) (acc : ℕ) → 0 < acc → T (digits_only l) → 
 unfolding read
 decimal-read [] acc p h = sym (append-nil (decimal acc))
 decimal-read (b ∷ l) acc p h =
-    let u = digit-bounds b (and_left (is_digit b) _ h) in
+    let u = digit_bounds b (and_left (is_digit b) _ h) in
     let q : (acc * 10 + (b - 48)) / 10 ≡ acc = omega (arith, u.0, u.1) in
     let r : 48 + (acc * 10 + (b - 48)) % 10 ≡ b = omega (arith, u.0, u.1) in
     rw (decimal-read l (acc * 10 + (b - 48)) (omega arith) (and_right (is_digit b) _ h), decimal-more (acc * 10 + (b - 48)) (omega arith), q, r, append_assoc)
@@ -85,12 +85,12 @@ unfolding read
 decimal-tidy x l h z = ⊎_elim nonzero zeros (below 48 x)
   where
     u : (48 ≤ x) × (x ≤ 57)
-    u = digit-bounds x (and_left (is_digit x) _ h)
+    u = digit_bounds x (and_left (is_digit x) _ h)
 
     one : decimal (0 * 10 + (x - 48)) ≡ x ∷ []
     one =
         let e : 48 + (0 * 10 + (x - 48)) ≡ x = omega (arith, u.0) in
-        rw (decimal-one (0 * 10 + (x - 48)) (omega (arith, u.1)), e)
+        rw (decimal_one (0 * 10 + (x - 48)) (omega (arith, u.1)), e)
 
     nonzero : 48 < x → decimal (read (0 * 10 + (x - 48)) l) ≡ x ∷ l
     nonzero g = rw (decimal-read l (0 * 10 + (x - 48)) (omega arith) (and_right (is_digit x) _ h), one)
@@ -142,7 +142,7 @@ bare_back f v h =
     d = digits v
 
     low : 48 ≤ d.first
-    low = (digit-bounds d.first (and_left (is_digit d.first) _ (rw d.is at d.only))).0
+    low = (digit_bounds d.first (and_left (is_digit d.first) _ (rw d.is at d.only))).0
 
     none : minus f (decimal v) ≡ 0
     none = rw d.is (no_minus f d.first d.more (λ e. omega (arith, low)))
@@ -153,10 +153,10 @@ bare_back f v h =
     zeros : v < 1 → T (not (eqb (get_or (decimal v) 0 0) 48) || eqb (length (decimal v)) 1)
     zeros l =
         let e : v ≡ 0 = omega arith in
-        rw (e, decimal-one 0 (omega arith)) tt
+        rw (e, decimal_one 0 (omega arith)) tt
 
-minus-back : (v : ℕ) → 2 ^ 31 ≤ v → v < 2 ^ 32 → Back 4 (45 ∷ decimal (2 ^ 32 - v)) v
-minus-back v l h =
+minus_back : (v : ℕ) → 2 ^ 31 ≤ v → v < 2 ^ 32 → Back 4 (45 ∷ decimal (2 ^ 32 - v)) v
+minus_back v l h =
     let d = digits (2 ^ 32 - v) in
     let long : 0 < length (decimal (2 ^ 32 - v)) = rw d.is (omega arith) in
     record {
@@ -166,13 +166,13 @@ minus-back v l h =
       fit = rw d.back (lt→ltb (2 ^ 32 - v) (2 ^ 31 + 1) (omega arith));
     }
 
-pub shown-back : (f v : ℕ) → (eqb f 4 ≡ true → v < 2 ^ 32) → (eqb f 4 ≡ false → v < 2 ^ 31) → Back f (shown f v) v
-shown-back f v h g = go (eqb f 4) refl
+pub shown_back : (f v : ℕ) → (eqb f 4 ≡ true → v < 2 ^ 32) → (eqb f 4 ≡ false → v < 2 ^ 31) → Back f (shown f v) v
+shown_back f v h g = go (eqb f 4) refl
   where
     go : (t : Bool) → eqb f 4 ≡ t → Back f (cond t (signed_decimal v) (decimal v)) v
     go true e =
         ⊎_elim (λ l. rw (signed-plain v l) (bare_back f v l))
-        (λ l. rw (signed-minus v l, eqb-true f 4 e) (minus-back v l (h e)))
+        (λ l. rw (signed-minus v l, eqb-true f 4 e) (minus_back v l (h e)))
         (below v (2 ^ 31))
     go false e = bare_back f v (g e)
 

@@ -21,7 +21,7 @@ use Rattle.assembly.specs.Numbers.{value_of, plain, fits, holds_imm, allowed, Ch
 use Rattle.assembly.specs.Assembly.{instruction, gives, half_of, code_of, unless_wrong, meaning_of, meaning}
 use Rattle.assembly.proofs.Numerals.{shown_forth}
 use Rattle.assembly.proofs.Places.{read-line}
-use Rattle.assembly.proofs.Forms.{still, still-is, range-is, env, rendered, text_for, text_rendered, has, kept, once, all_once, no_imm}
+use Rattle.assembly.proofs.Forms.{still, still_is, range_is, env, rendered, text_for, text_rendered, has, kept, once, all_once, no_imm}
 
 -- ---- all numbers are allowed
 
@@ -60,34 +60,34 @@ abbrev Says : ℕ → ℕ → ℕ → Type 0
 Says k f v = T (cond (eqb f 4) (holds_imm k v) (ltb v 32))
 
 -- .. which a field keeps
-after-says : (k f v : ℕ) (ws : List Word) → Says k f v → Allowed k ws → Says k f (after f v ws)
+after_says : (k f v : ℕ) (ws : List Word) → Says k f v → Allowed k ws → Says k f (after f v ws)
 unfolding after
-after-says k f v [] t a = t
-after-says k f v (w ∷ ws) t a = after-says k f (cond (eqb f w.of) (value_of w.of w.digits) v) ws (go (eqb f w.of) refl) a.1
+after_says k f v [] t a = t
+after_says k f v (w ∷ ws) t a = after_says k f (cond (eqb f w.of) (value_of w.of w.digits) v) ws (go (eqb f w.of) refl) a.1
   where
     go : (b : Bool) → eqb f w.of ≡ b → Says k f (cond b (value_of w.of w.digits) v)
     go true q = rw (eqb-true f w.of q) (and_right (fits w.of w.digits) _ (and_right (plain w.of w.digits) _ a.0))
     go false q = t
 
 -- .. and one of the shape has
-value-says : {s : List Piece} {n : ℕ} {ws : List Word} {l : List ℕ} → Spelled s n ws l → (k f v : ℕ) → T (has f s) → Allowed k ws → Says k f (after f v ws)
+value_says : {s : List Piece} {n : ℕ} {ws : List Word} {l : List ℕ} → Spelled s n ws l → (k f v : ℕ) → T (has f s) → Allowed k ws → Says k f (after f v ws)
 unfolding after
-value-says end k f v h a = absurd h
-value-says (same r) k f v h a = value-says r k f v h a
-value-says (number {f = g} {n = n} {s = s} {ws = ws} w x r) k f v h a = go (λ h. value-says r k f v h a.1) (eqb f g) refl h
+value_says end k f v h a = absurd h
+value_says (same r) k f v h a = value_says r k f v h a
+value_says (number {f = g} {n = n} {s = s} {ws = ws} w x r) k f v h a = go (λ h. value_says r k f v h a.1) (eqb f g) refl h
   where
     says : T (plain g w && (fits g w && cond (eqb g 4) (holds_imm k (value_of g w)) (ltb (value_of g w) 32))) → Says k g (value_of g w)
     says t = and_right (fits g w) _ (and_right (plain g w) _ t)
 
     go : (T (has f s) → Says k f (after f v ws)) → (t : Bool) → eqb f g ≡ t → T (cond t true (has f s)) → Says k f (after f (cond t (value_of g w) v) ws)
-    go ih true q h = after-says k f (value_of g w) ws (subst (λ (g' : ℕ). Says k g' (value_of g w)) (sym (eqb-true f g q)) (says a.0)) a.1
+    go ih true q h = after_says k f (value_of g w) ws (subst (λ (g' : ℕ). Says k g' (value_of g w)) (sym (eqb-true f g q)) (says a.0)) a.1
     go ih false q h = ih h
 
-pub value-small : {s : List Piece} {n : ℕ} {ws : List Word} {l : List ℕ} → Spelled s n ws l → (k f : ℕ) → eqb f 4 ≡ false → Allowed k ws → T (ltb (value f ws) 32)
-value-small {s} {n} {ws} {l} r k f q a = go (has f s) refl
+pub value_small : {s : List Piece} {n : ℕ} {ws : List Word} {l : List ℕ} → Spelled s n ws l → (k f : ℕ) → eqb f 4 ≡ false → Allowed k ws → T (ltb (value f ws) 32)
+value_small {s} {n} {ws} {l} r k f q a = go (has f s) refl
   where
     go : (t : Bool) → has f s ≡ t → T (ltb (value f ws) 32)
-    go true h = rw q at (value-says r k f 0 (holds _ h) a)
+    go true h = rw q at (value_says r k f 0 (holds _ h) a)
     go false h = rw (after_none r f 0 h) tt
 
 -- ---- the line from the values
@@ -162,46 +162,46 @@ its c k ws line h r e = record { ranged = ranged; is = is }
     a : Allowed k ws
     a = all-allowed k ws e
 
-    kept-value : (f : ℕ) → cond (has f (shape c k)) (value f ws) 0 ≡ value f ws
-    kept-value f = go (has f (shape c k)) refl
+    kept_value : (f : ℕ) → cond (has f (shape c k)) (value f ws) 0 ≡ value f ws
+    kept_value f = go (has f (shape c k)) refl
       where
         go : (t : Bool) → has f (shape c k) ≡ t → cond t (value f ws) 0 ≡ value f ws
         go true q = refl
         go false q = sym (after_none r f 0 q)
 
-    its-parts : parts_of i ≡ p
-    its-parts = kept c k (value 1 ws) (value 2 ws) (value 3 ws) (value 4 ws) h ∙ rw (kept-value 1, kept-value 2, kept-value 3, kept-value 4)
+    its_parts : parts_of i ≡ p
+    its_parts = kept c k (value 1 ws) (value 2 ws) (value 3 ws) (value 4 ws) h ∙ rw (kept_value 1, kept_value 2, kept_value 3, kept_value 4)
 
     operation : (parts_of i).operation ≡ k
-    operation = ap (λ (p : Parts). p.operation) its-parts
+    operation = ap (λ (p : Parts). p.operation) its_parts
 
     imm_held : T (holds_imm k (value 4 ws))
     imm_held = go (has 4 (shape c k)) refl (rw operation at (no_imm c i))
       where
         go : (t : Bool) → has 4 (shape c k) ≡ t → T (has 4 (shape c k) || holds_imm k 0) → T (holds_imm k (value 4 ws))
-        go true q n = value-says r k 4 0 (holds _ q) a
+        go true q n = value_says r k 4 0 (holds _ q) a
         go false q n = rw (after_none r 4 0 q) (rw q at n)
 
     registers : T (registers_ok p)
     registers =
-        and_both (ltb (value 1 ws) 32) _ (value-small r k 1 refl a)
-        (and_both (ltb (value 2 ws) 32) _ (value-small r k 2 refl a) (value-small r k 3 refl a))
+        and_both (ltb (value 1 ws) 32) _ (value_small r k 1 refl a)
+        (and_both (ltb (value 2 ws) 32) _ (value_small r k 2 refl a) (value_small r k 3 refl a))
 
     stilled : T (in_range (still i))
-    stilled = subst (λ (j : Inst). T (in_range j)) (ap (λ (q : Parts). built (parts q.operation 0 0 0 q.imm)) (sym its-parts) ∙ still-is i) imm_held
+    stilled = subst (λ (j : Inst). T (in_range j)) (ap (λ (q : Parts). built (parts q.operation 0 0 0 q.imm)) (sym its_parts) ∙ still_is i) imm_held
 
     ranged : T (in_range i)
-    ranged = (range-is i).1 (subst (λ (q : Parts). T (registers_ok q)) (sym its-parts) registers, stilled)
+    ranged = (range_is i).1 (subst (λ (q : Parts). T (registers_ok q)) (sym its_parts) registers, stilled)
 
-    its-field : (f : ℕ) → T (has f (shape c k)) → env p f ≡ value f ws
-    its-field f t =
+    its_field : (f : ℕ) → T (has f (shape c k)) → env p f ≡ value f ws
+    its_field f t =
         let u = known f (shape c k) (rw operation at (all_once c i)) t in
         env_value (λ f. value f ws) f (leb→le 1 f (and_left (leb 1 f) _ u)) (leb→le f 4 (and_right (leb 1 f) _ u))
 
     is : line ≡ text_for c i ++ (10 ∷ [])
     is =
-        sym (rendered_is r k (env p) a (agrees r (rw operation at (all_once c i)) (env p) (λ f. 0) its-field))
-        ∙ subst (λ (q : Parts). rendered (shape c q.operation) (env q) ≡ text_for c i ++ (10 ∷ [])) its-parts (text_rendered c i stilled)
+        sym (rendered_is r k (env p) a (agrees r (rw operation at (all_once c i)) (env p) (λ f. 0) its_field))
+        ∙ subst (λ (q : Parts). rendered (shape c q.operation) (env q) ≡ text_for c i ++ (10 ∷ [])) its_parts (text_rendered c i stilled)
 
 -- ---- EVERY ACCEPTED LINE is the text of the instruction that it gives
 
@@ -213,9 +213,9 @@ pub record Given (text bs rest : List ℕ) : Type 0 where
   pub code : code_of short inst rest ≡ gives bs rest
 
 -- the text after the line is what is handed on
-code-rest : (c : Bool) (i : Inst) (r bs rest : List ℕ) → code_of c i r ≡ gives bs rest → r ≡ rest
-code-rest false i r bs rest e = cc
-code-rest true i r bs rest e = go (shortened i) e
+code_rest : (c : Bool) (i : Inst) (r bs rest : List ℕ) → code_of c i r ≡ gives bs rest → r ≡ rest
+code_rest false i r bs rest e = cc
+code_rest true i r bs rest e = go (shortened i) e
   where
     go : (s : Shortened) → half_of s r ≡ gives bs rest → r ≡ rest
     go (Half h) e = cc
@@ -229,7 +229,7 @@ accepted text bs rest e = go (line_at text) refl e
     there c k ws r q u e =
         let l = read-line text c k ws r q in
         let t = its c k ws l.line l.known l.spelled u in
-        let z : r ≡ rest = code-rest c (instruction k ws) r bs rest e in
+        let z : r ≡ rest = code_rest c (instruction k ws) r bs rest e in
         record {
           short = c;
           inst = instruction k ws;

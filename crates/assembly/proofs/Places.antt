@@ -59,8 +59,8 @@ all_mixed : T (passes (λ k s. passes (λ j s'. clash s s') (rows false 48 0)) (
 unfolding decimal decimal_by signed_decimal names name_at operands_of text_of short_text_of built shape
 all_mixed = tt
 
-pub all-follow : (c : Bool) (k : ℕ) → k < 48 → T (follows (shape c k))
-all-follow c k h = and_left (follows (shape c k)) _ (row c (good c) 48 0 (all-good c) k (omega arith) (omega arith))
+pub all_follow : (c : Bool) (k : ℕ) → k < 48 → T (follows (shape c k))
+all_follow c k h = and_left (follows (shape c k)) _ (row c (good c) 48 0 (all-good c) k (omega arith) (omega arith))
 
 pairs_clash : (c : Bool) (k j : ℕ) → k < 48 → j < 48 → (j ≡ k → ⊥) → T (clash (shape c k) (shape c j))
 pairs_clash c k j h g ne =
@@ -110,11 +110,11 @@ none_reads c (suc n) l f =
     (cond (ltb a.0 b.0) b.0 a.0, rw (a.1, b.1))
 
 -- one reads
-one-reads : (c : Bool) (n k : ℕ) (l : List ℕ) {m : ℕ} {r : List ℕ} {ws : List Word} → k < n → scanned c k l ≡ at m r ws
+one_reads : (c : Bool) (n k : ℕ) (l : List ℕ) {m : ℕ} {r : List ℕ} {ws : List Word} → k < n → scanned c k l ≡ at m r ws
     → ((j : ℕ) → j < n → (j ≡ k → ⊥) → Stuck (scanned c j l)) → among c n l ≡ reads c k ws r
 unfolding among
-one-reads c zero k l h e f = absurd (omega arith)
-one-reads c (suc n) k l {m} {r} {ws} h e f = go (λ g. one-reads c n k l g e (λ j i ne. f j (omega arith) ne)) (below k n)
+one_reads c zero k l h e f = absurd (omega arith)
+one_reads c (suc n) k l {m} {r} {ws} h e f = go (λ g. one_reads c n k l g e (λ j i ne. f j (omega arith) ne)) (below k n)
   where
     go : (k < n → among c n l ≡ reads c k ws r) → (k < n) ⊎ (n ≤ k) → furthest (among c n l) (line_of c n (scanned c n l)) ≡ reads c k ws r
     go ih (inl g) = rw (ih g)
@@ -126,11 +126,11 @@ one-reads c (suc n) k l {m} {r} {ws} h e f = go (λ g. one-reads c n k l g e (λ
 -- a line that is read
 pub line_reads : (c : Bool) (k : ℕ) {ws : List Word} {l : List ℕ} → k < 48 → Spelled (shape c k) 0 ws l → (t : List ℕ) → line_at (l ++ t) ≡ reads c k ws t
 line_reads false k {ws} {l} h r t =
-    rw (one-reads false 48 k (l ++ t) h (complete r (all-follow false k h) t []) (λ j g ne. clashes r (shape false j) (pairs_clash false k j h g ne) t []))
+    rw (one_reads false 48 k (l ++ t) h (complete r (all_follow false k h) t []) (λ j g ne. clashes r (shape false j) (pairs_clash false k j h g ne) t []))
 line_reads true k {ws} {l} h r t =
     rw (
       (none_reads false 48 (l ++ t) (λ j g. clashes r (shape false j) (mixed_clash k j h g) t [])).1,
-      one-reads true 48 k (l ++ t) h (complete r (all-follow true k h) t []) (λ j g ne. clashes r (shape true j) (pairs_clash true k j h g ne) t []),
+      one_reads true 48 k (l ++ t) h (complete r (all_follow true k h) t []) (λ j g ne. clashes r (shape true j) (pairs_clash true k j h g ne) t []),
     )
 
 -- ---- where no shape reads, none goes further
@@ -212,8 +212,8 @@ starts c k l p h e = go (subst (Outcome (shape c k) 0 l []) e (outcome (shape c 
         )
 
 -- of each of the 96
-behind-all : (l : List ℕ) (p : ℕ) → line_at l ≡ unreadable p → (c : Bool) (k : ℕ) → k < 48 → Behind c k l p
-behind-all l p e c k h = go c
+behind_all : (l : List ℕ) (p : ℕ) → line_at l ≡ unreadable p → (c : Bool) (k : ℕ) → k < 48 → Behind c k l p
+behind_all l p e c k h = go c
   where
     f : (m n : ℕ) × (among false 48 l ≡ unreadable m) × (among true 48 l ≡ unreadable n) × (m ≤ p) × (n ≤ p) × ((p ≡ m) ⊎ (p ≡ n))
     f = furthest-none (among false 48 l) (among true 48 l) p e
@@ -226,15 +226,15 @@ behind-all l p e c k h = go c
         let b = behind true 48 l f.1 f.3 k h in
         record { place = b.place; is = b.is; low = omega (arith, b.low, f.5) }
 
-first-starts : (l : List ℕ) (p : ℕ) → line_at l ≡ unreadable p → (p ≤ length l) × Begins (take p l)
-first-starts l p e = go f.0 f.1 (furthest-is false 48 l f.0 (omega arith) f.2) (furthest-is true 48 l f.1 (omega arith) f.3) f.6
+first_starts : (l : List ℕ) (p : ℕ) → line_at l ≡ unreadable p → (p ≤ length l) × Begins (take p l)
+first_starts l p e = go f.0 f.1 (furthest-is false 48 l f.0 (omega arith) f.2) (furthest-is true 48 l f.1 (omega arith) f.3) f.6
   where
     f : (m n : ℕ) × (among false 48 l ≡ unreadable m) × (among true 48 l ≡ unreadable n) × (m ≤ p) × (n ≤ p) × ((p ≡ m) ⊎ (p ≡ n))
     f = furthest-none (among false 48 l) (among true 48 l) p e
 
     at_zero : p ≡ 0 → (p ≤ length l) × Begins (take p l)
     at_zero z =
-        let b = behind-all l p e false 0 (omega arith) in
+        let b = behind_all l p e false 0 (omega arith) in
         let q : b.place ≡ p = omega (arith, b.low) in
         starts false 0 l p (omega arith) (b.is ∙ ap stuck q)
 
@@ -248,14 +248,14 @@ first-starts l p e = go f.0 f.1 (furthest-is false 48 l f.0 (omega arith) f.2) (
 
 pub place : (text : List ℕ) (p : ℕ) → line_at text ≡ unreadable p → UnreadableAt text p
 place text p e =
-    let s = first-starts text p e in
+    let s = first_starts text p e in
     record { within = s.0; before = s.1; beyond = beyond; no_line = no_line }
   where
     beyond : (q : ℕ) → p < q → q ≤ length text → Begins (take q text) → ⊥
     beyond q l u g =
         let r = g.line in
-        let b = behind-all text p e r.short r.operation r.known in
-        let reach = reaches r.spelled (all-follow r.short r.operation r.known) (take q text) g.rest (drop q text) [] refl in
+        let b = behind_all text p e r.short r.operation r.known in
+        let reach = reaches r.spelled (all_follow r.short r.operation r.known) (take q text) g.rest (drop q text) [] refl in
         omega (arith, b.low, length-take-le q text u, rw (take-append-drop q text, b.is) at reach)
 
     no_line : (line rest : List ℕ) → text ≡ line ++ rest → Readable line → ⊥

@@ -15,7 +15,7 @@ use Rattle.isa.specs.Rvc.{expanded}
 use Rattle.isa.specs.Shortening.{shortened}
 use Rattle.isa.specs.Operations.{parts_of}
 use Rattle.shortest.specs.Trial.{tried}
-use Rattle.shortest.proofs.Shortest.{shortened-one, no-short-form, none-stands}
+use Rattle.shortest.proofs.Shortest.{shortened_one, no_short_form, none-stands}
 use Rattle.text.specs.Text.{short_text_of}
 use Rattle.answers.specs.declared.Refusal.{Refusal}
 use Rattle.answers.specs.Refusals.{number_of}
@@ -32,11 +32,11 @@ use Rattle.assembly.proofs.Only.{its}
 -- ---- 10
 
 -- coding refuses with 12 and nothing else
-code-not : (c : Bool) (i : Inst) (rest : List ℕ) (r : Refusal) (p : ℕ) → (NoShortLine ≡ r → ⊥) → code_of c i rest ≡ faulty r p → ⊥
-code-not false i rest r p ne e =
+code_not : (c : Bool) (i : Inst) (rest : List ℕ) (r : Refusal) (p : ℕ) → (NoShortLine ≡ r → ⊥) → code_of c i rest ≡ faulty r p → ⊥
+code_not false i rest r p ne e =
     let z : ◌≡◌ {A = ℕ} 0 1 = cc in
     omega arith
-code-not true i rest r p ne e = go (shortened i) e
+code_not true i rest r p ne e = go (shortened i) e
   where
     go : (s : Shortened) → half_of s rest ≡ faulty r p → ⊥
     go (Half h) e =
@@ -53,14 +53,14 @@ unread text p e = go (line_at text) refl e
     go (reads c k ws r) q e = by (checked k ws) e
       where
         by : (x : Checked) → unless_wrong x (code_of c (instruction k ws) r) ≡ faulty Unreadable p → line_at text ≡ unreadable p
-        by right e = absurd (code-not c (instruction k ws) r Unreadable p (λ n. let z = ap number_of n in omega arith) e)
+        by right e = absurd (code_not c (instruction k ws) r Unreadable p (λ n. let z = ap number_of n in omega arith) e)
         by (wrong n) e =
             let z : ◌≡◌ {A = ℕ} 0 1 = cc in
             absurd (omega arith)
 
 -- THE PLACE OF 10 IS THE FIRST BYTE THAT CAN'T CONTINUE A READABLE LINE
-pub refused-10 : (text : List ℕ) (p : ℕ) → (meaning text ≡ faulty Unreadable p) ↔ UnreadableAt text p
-refused-10 text p = (λ e. place text p (unread text p e), λ h. go h (line_at text) refl)
+pub refused_10 : (text : List ℕ) (p : ℕ) → (meaning text ≡ faulty Unreadable p) ↔ UnreadableAt text p
+refused_10 text p = (λ e. place text p (unread text p e), λ h. go h (line_at text) refl)
   where
     only : UnreadableAt text p → (q : ℕ) → UnreadableAt text q → q ≡ p
     only h q g =
@@ -112,7 +112,7 @@ refused_11 text p = (λ e. to (line_at text) refl e, from)
     to (reads c k ws r) q e = by (checked k ws) refl e
       where
         by : (x : Checked) → checked k ws ≡ x → unless_wrong x (code_of c (instruction k ws) r) ≡ faulty NumberNotAllowed p → WrongNumberAt text p
-        by right u e = absurd (code-not c (instruction k ws) r NumberNotAllowed p (λ n. let z = ap number_of n in omega arith) e)
+        by right u e = absurd (code_not c (instruction k ws) r NumberNotAllowed p (λ n. let z = ap number_of n in omega arith) e)
         by (wrong n) u e =
             let z : n ≡ p = cc in
             record { short = c; operation = k; numbers = ws; rest = r; read = read-line text c k ws r q; leftmost = leftmost k ws p (u ∙ ap wrong z) }
@@ -140,11 +140,11 @@ refused_12 text p = (λ e. to (line_at text) refl e, from)
             absurd (omega arith)
         go OutOfRange q e = (
           (let z : 0 ≡ p = cc in sym z),
-          λ h l m. let x : Half (tried (parts_of i)) ≡ OutOfRange = sym (shortened-one i h l m) ∙ q in
+          λ h l m. let x : Half (tried (parts_of i)) ≡ OutOfRange = sym (shortened_one i h l m) ∙ q in
               let z : ◌≡◌ {A = ℕ} 0 1 = cc in
               omega arith,
         )
-        go NoShortForm q e = ((let z : 0 ≡ p = cc in sym z), no-short-form i q)
+        go NoShortForm q e = ((let z : 0 ≡ p = cc in sym z), no_short_form i q)
 
     to : (l : Line) → line_at text ≡ l → meaning_of l ≡ faulty NoShortLine p → NoHalfAt text p
     to (unreadable n) q e =
@@ -156,13 +156,13 @@ refused_12 text p = (λ e. to (line_at text) refl e, from)
         by (wrong n) u e =
             let z : ◌≡◌ {A = ℕ} 0 1 = cc in
             absurd (omega arith)
-        by right u e = with-c c q e
+        by right u e = with_c c q e
           where
-            with-c : (c : Bool) → line_at text ≡ reads c k ws r → code_of c (instruction k ws) r ≡ faulty NoShortLine p → NoHalfAt text p
-            with-c false q e =
+            with_c : (c : Bool) → line_at text ≡ reads c k ws r → code_of c (instruction k ws) r ≡ faulty NoShortLine p → NoHalfAt text p
+            with_c false q e =
                 let z : ◌≡◌ {A = ℕ} 0 1 = cc in
                 absurd (omega arith)
-            with-c true q e =
+            with_c true q e =
                 let l = read-line text true k ws r q in
                 let t = its true k ws l.line l.known l.spelled u in
                 let g = is_true _ t.ranged in

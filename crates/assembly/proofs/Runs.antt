@@ -22,10 +22,10 @@ unfolding run
 run-front [] t h = omega arith
 run-front (x ∷ a) t h = rw (is_true (is_digit x) (and_left (is_digit x) _ h)) (omega (arith, run-front a t (and_right (is_digit x) _ h)))
 
-pub run-exact : (a t : List ℕ) → T (digits_only a) → run t ≡ 0 → run (a ++ t) ≡ length a
+pub run_exact : (a t : List ℕ) → T (digits_only a) → run t ≡ 0 → run (a ++ t) ≡ length a
 unfolding run
-run-exact [] t h e = e
-run-exact (x ∷ a) t h e = rw (is_true (is_digit x) (and_left (is_digit x) _ h)) (ap suc (run-exact a t (and_right (is_digit x) _ h) e))
+run_exact [] t h e = e
+run_exact (x ∷ a) t h e = rw (is_true (is_digit x) (and_left (is_digit x) _ h)) (ap suc (run_exact a t (and_right (is_digit x) _ h) e))
 
 pub run-digits : (l : List ℕ) → T (digits_only (take (run l) l))
 unfolding run
@@ -68,18 +68,18 @@ number-front f (x ∷ a) b t h = go (eqb f 4 && eqb x 45) h
     go false h = omega (arith, run-front (x ∷ a) t (digits-front (x ∷ a) b (and_left (digits_only (x ∷ (a ++ b))) _ h)))
 
 -- a number is read to its end, where no digit follows
-pub number-exact : (f : ℕ) (a t : List ℕ) → T (is_number f a) → run t ≡ 0 → (numeral f (a ++ t) ≡ length a) × (minus f (a ++ t) < length a)
-number-exact f [] t h e = absurd (no_number f h)
-number-exact f (x ∷ a) t h e = go (eqb f 4 && eqb x 45) h
+pub number_exact : (f : ℕ) (a t : List ℕ) → T (is_number f a) → run t ≡ 0 → (numeral f (a ++ t) ≡ length a) × (minus f (a ++ t) < length a)
+number_exact f [] t h e = absurd (no_number f h)
+number_exact f (x ∷ a) t h e = go (eqb f 4 && eqb x 45) h
   where
     go : (s : Bool) → T (digits_only (drop (cond s 1 0) (x ∷ a)) && ltb (cond s 1 0) (suc (length a)))
         → (cond s 1 0 + run (drop (cond s 1 0) (x ∷ (a ++ t))) ≡ suc (length a)) × (cond s 1 0 < suc (length a))
     go true h = (
-      rw (run-exact a t (and_left (digits_only a) _ h) e) (one_more (length a)),
+      rw (run_exact a t (and_left (digits_only a) _ h) e) (one_more (length a)),
       ltb→lt 1 (suc (length a)) (and_right (digits_only a) _ h),
     )
     go false h = (
-      rw (run-exact (x ∷ a) t (and_left (digits_only (x ∷ a)) _ h) e) (none_more (suc (length a))),
+      rw (run_exact (x ∷ a) t (and_left (digits_only (x ∷ a)) _ h) e) (none_more (suc (length a))),
       ltb→lt 0 (suc (length a)) (and_right (digits_only (x ∷ a)) _ h),
     )
 

@@ -12,7 +12,7 @@ use borrow.Author.Tests.{eqb-true, ltb-true, ltb-false, lt-ltb, eq-eqb}
 use Rattle.word.proofs.Bools.{and_left, and_right}
 use Rattle.assembly.specs.Lines.{Piece, byte, field, is_digit, digits_only, minus, is_number, Word, word, Spelled, end, same, number}
 use Rattle.assembly.specs.Scanner.{Scan, at, stuck, run, numeral, over, scan}
-use Rattle.assembly.proofs.Runs.{number-front, number-exact, read_number}
+use Rattle.assembly.proofs.Runs.{number-front, number_exact, read_number}
 
 -- ---- shapes in which no digit follows a number
 
@@ -26,15 +26,15 @@ follows [] = true
 follows (byte b ∷ s) = follows s
 follows (field f ∷ s) = opens s && follows s
 
-opens-run : {s : List Piece} {n : ℕ} {ws : List Word} {l : List ℕ} → Spelled s n ws l → T (opens s) → (t : List ℕ) → run (l ++ t) ≡ 0
+opens_run : {s : List Piece} {n : ℕ} {ws : List Word} {l : List ℕ} → Spelled s n ws l → T (opens s) → (t : List ℕ) → run (l ++ t) ≡ 0
 unfolding run
-opens-run end h t = absurd h
-opens-run (same {b = b} {l = l} r) h t = go (is_digit b) h
+opens_run end h t = absurd h
+opens_run (same {b = b} {l = l} r) h t = go (is_digit b) h
   where
     go : (d : Bool) → T (not d) → cond d (suc (run (l ++ t))) 0 ≡ 0
     go true h = absurd h
     go false h = refl
-opens-run (number a g r) h t = absurd h
+opens_run (number a g r) h t = absurd h
 
 -- ---- stuck stays
 
@@ -47,14 +47,14 @@ abbrev pub place_of : Scan → ℕ
 place_of (at n l ws) = n
 place_of (stuck n) = n
 
-over-up : (p : Piece) (n : ℕ) (l : List ℕ) (ws : List Word) → n ≤ place_of (over p n l ws)
-over-up (byte b) n [] ws = omega arith
-over-up (byte b) n (x ∷ l) ws = go (eqb x b)
+over_up : (p : Piece) (n : ℕ) (l : List ℕ) (ws : List Word) → n ≤ place_of (over p n l ws)
+over_up (byte b) n [] ws = omega arith
+over_up (byte b) n (x ∷ l) ws = go (eqb x b)
   where
     go : (t : Bool) → n ≤ place_of (cond t (at (suc n) l ws) (stuck n))
     go true = omega arith
     go false = omega arith
-over-up (field f) n l ws = go (ltb (minus f l) (numeral f l))
+over_up (field f) n l ws = go (ltb (minus f l) (numeral f l))
   where
     go : (t : Bool) → n ≤ place_of (cond t (at (n + numeral f l) (drop (numeral f l) l) (ws ++ (word f n (take (numeral f l) l) ∷ []))) (stuck (n + numeral f l)))
     go true = omega arith
@@ -63,14 +63,14 @@ over-up (field f) n l ws = go (ltb (minus f l) (numeral f l))
 pub up : (s : List Piece) (r : Scan) → place_of r ≤ place_of (scan s r)
 unfolding scan
 up [] r = omega arith
-up (p ∷ s) (at n l ws) = omega (arith, over-up p n l ws, up s (over p n l ws))
+up (p ∷ s) (at n l ws) = omega (arith, over_up p n l ws, up s (over p n l ws))
 up (p ∷ s) (stuck n) = up s (stuck n)
 
 -- ---- what is spelled is read
 
 field-read : (f n : ℕ) (a t : List ℕ) (ws : List Word) → T (is_number f a) → run t ≡ 0 → over (field f) n (a ++ t) ws ≡ at (n + length a) t (ws ++ (word f n a ∷ []))
 field-read f n a t ws h e =
-    let q = number-exact f a t h e in
+    let q = number_exact f a t h e in
     rw (q.0, lt-ltb _ _ q.1, take-append_seam a t, drop-append_seam a t)
 
 pub complete : {s : List Piece} {n : ℕ} {new : List Word} {l : List ℕ} → Spelled s n new l → T (follows s) → (t : List ℕ) (ws : List Word)
@@ -81,7 +81,7 @@ complete {n = n} (same {b = b} {s = s} {ws = new} {l = l} r) h t ws =
     let e : suc n + length l ≡ n + suc (length l) = omega arith in
     rw (eq-eqb b b refl, complete r h t ws, e)
 complete {n = n} (number {f = f} {s = s} {ws = new} {l = l} a g r) h t ws =
-    rw (append_assoc a l t, field-read f n a (l ++ t) ws g (opens-run r (and_left (opens s) _ h) t), complete r (and_right (opens s) _ h) t (ws ++ (word f n a ∷ [])), length-append a l, append_assoc ws (word f n a ∷ []) new, add_assoc n (length a) (length l))
+    rw (append_assoc a l t, field-read f n a (l ++ t) ws g (opens_run r (and_left (opens s) _ h) t), complete r (and_right (opens s) _ h) t (ws ++ (word f n a ∷ [])), length-append a l, append_assoc ws (word f n a ∷ []) new, add_assoc n (length a) (length l))
 
 -- ---- the beginning of what is spelled is read
 
@@ -132,7 +132,7 @@ reaches {n = n} (same {b = c} {s = s} {l = l} r) h a b t ws e = go (λ a q. reac
   where
     go : ((a : List ℕ) → l ≡ a ++ b → suc n + length a ≤ place_of (scan s (at (suc n) (a ++ t) ws))) → (a : List ℕ) → c ∷ l ≡ a ++ b
         → n + length a ≤ place_of (scan s (over (byte c) n (a ++ t) ws))
-    go ih [] e = omega (arith, over-up (byte c) n t ws, up s (over (byte c) n t ws))
+    go ih [] e = omega (arith, over_up (byte c) n t ws, up s (over (byte c) n t ws))
     go ih (x ∷ a) e =
         let head : x ≡ c = cc in
         let tail : l ≡ a ++ b = cc in
@@ -145,7 +145,7 @@ reaches {n = n} (number {f = f} {s = s} {ws = new} {l = l} w g r) h a b t ws e =
     go (within w' q) ih =
         omega (arith, over-field f n (a ++ t) ws, number-front f a w' t (subst (λ (w : List ℕ). T (is_number f w)) q g), up s (over (field f) n (a ++ t) ws))
     go (beyond c a' q u) ih =
-        let stop : run (c ∷ (a' ++ t)) ≡ 0 = run-first c (a' ++ b ++ []) (a' ++ t) (subst (λ (l : List ℕ). run (l ++ []) ≡ 0) u (opens-run r (and_left (opens s) _ h) [])) in
+        let stop : run (c ∷ (a' ++ t)) ≡ 0 = run-first c (a' ++ b ++ []) (a' ++ t) (subst (λ (l : List ℕ). run (l ++ []) ≡ 0) u (opens_run r (and_left (opens s) _ h) [])) in
         rw (q, append_assoc w (c ∷ a') t, field-read f n w (c ∷ (a' ++ t)) ws g stop, length-append w (c ∷ a')) (omega (arith, ih (c ∷ a') b u))
 
 -- ---- what is read is spelled

@@ -18,7 +18,7 @@ use Rattle.isa.specs.Building.{built}
 use Rattle.isa.specs.Encoding.{word_of}
 use Rattle.isa.specs.Shortening.{shortened}
 use Rattle.octets.specs.Bytes.{little_endian}
-use Rattle.octets.proofs.Bytes.{length-le}
+use Rattle.octets.proofs.Bytes.{length_le}
 use Rattle.text.specs.Names.{names, name_at}
 use Rattle.text.specs.Text.{operands_of, text_of, short_text_of}
 use Rattle.assembly.specs.Lines.{Piece, shape, digits_only, minus, Word, Spelled, end, same, number}
@@ -52,17 +52,17 @@ shape-long c k h = leb→le 4 (length (shape c k)) (rw (lt-ltb k 48 h) at (at (�
 abbrev Coded : List ℕ → List ℕ → List ℕ → Type 0
 Coded r bs rest = (0 < length bs) × (length bs ≤ 4) × (r ≡ rest)
 
-code-long : (c : Bool) (i : Inst) (r bs rest : List ℕ) → code_of c i r ≡ gives bs rest → Coded r bs rest
-code-long false i r bs rest e =
+code_long : (c : Bool) (i : Inst) (r bs rest : List ℕ) → code_of c i r ≡ gives bs rest → Coded r bs rest
+code_long false i r bs rest e =
     let z : little_endian 4 (word_of i) ≡ bs = cc in
-    let l : length bs ≡ 4 = sym (ap length z) ∙ length-le 4 (word_of i) in
+    let l : length bs ≡ 4 = sym (ap length z) ∙ length_le 4 (word_of i) in
     (omega arith, omega arith, cc)
-code-long true i r bs rest e = go (shortened i) e
+code_long true i r bs rest e = go (shortened i) e
   where
     go : (s : Shortened) → half_of s r ≡ gives bs rest → Coded r bs rest
     go (Half h) e =
         let z : little_endian 2 h ≡ bs = cc in
-        let l : length bs ≡ 2 = sym (ap length z) ∙ length-le 2 h in
+        let l : length bs ≡ 2 = sym (ap length z) ∙ length_le 2 h in
         (omega arith, omega arith, cc)
     go OutOfRange e =
         let z : ◌≡◌ {A = ℕ} 0 1 = cc in
@@ -86,7 +86,7 @@ gives-long text bs rest e = go (line_at text) refl e
             absurd (omega arith)
         by right e =
             let l = read-line text c k ws r q in
-            let h = code-long c (instruction k ws) r bs rest e in (
+            let h = code_long c (instruction k ws) r bs rest e in (
               h.0,
               omega (arith, h.1, ap length h.2, ap length l.split, length-append l.line r, spelled-long l.spelled, shape-long c k l.known),
             )
@@ -115,10 +115,10 @@ unfolding assembled_by assembled
 nothing = refl
 
 -- a line that gives bytes, and one that is at fault
-pub line-then : (text bs rest : List ℕ) → meaning text ≡ gives bs rest → assembled text ≡ before bs (assembled rest)
+pub line_then : (text bs rest : List ℕ) → meaning text ≡ gives bs rest → assembled text ≡ before bs (assembled rest)
 unfolding assembled_by assembled
-line-then [] bs rest e = let l = gives-long [] bs rest e in absurd (omega (arith, l.0, l.1))
-line-then (b ∷ text) bs rest e =
+line_then [] bs rest e = let l = gives-long [] bs rest e in absurd (omega (arith, l.0, l.1))
+line_then (b ∷ text) bs rest e =
     let l = gives-long (b ∷ text) bs rest e in
     ap (onward (assembled_by (length text))) e ∙ ap (before bs) (fuel (length text) (length rest) rest (omega (arith, l.0, l.1)) (omega arith))
 

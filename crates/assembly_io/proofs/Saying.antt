@@ -14,7 +14,7 @@ use Rattle.answers.proofs.Numbers.{refusal-numbered}
 use Rattle.ascii.specs.Ascii.{bytes}
 use Rattle.ascii.specs.Numbers.{decimal}
 use Rattle.ascii.specs.Rooms.{Wrote, fronted}
-use Rattle.ascii.proofs.Numbers.{decimal-bound}
+use Rattle.ascii.proofs.Numbers.{decimal_bound}
 use Rattle.ascii.proofs.Rooms.{at_front}
 use Rattle.assembly.specs.Assembly.{Assembly, output, fault, assembled}
 use Rattle.assembler.specs.declared.Assembled.{Assembled}
@@ -26,7 +26,7 @@ use Rattle.assembly_io.specs.declared.Said.TheVariants.{Output, Error}
 use Rattle.assembly_io.specs.Saying.{to_error, complaint, said_of, in_room, saying}
 
 pub complaint-short : (r : Refusal) → length (decimal (number_of r)) ≤ 2
-complaint-short r = decimal-bound 1 (number_of r) (omega (arith, (refusal-numbered r).2))
+complaint-short r = decimal_bound 1 (number_of r) (omega (arith, (refusal-numbered r).2))
 
 complaint-long : (r : Refusal) → length (complaint r) ≤ 3
 unfolding complaint

@@ -15,8 +15,8 @@ use Rattle.fuses.specs.Row.{owns}
 abbrev Common : ℕ → ℕ → Type 0
 Common a b = (k : ℕ) × (owns a k ≡ true) × (owns b k ≡ true)
 
-common-and : (a b : ℕ) → Common a b → eqb (bit_and a b) 0 ≡ false
-common-and a b (k, e, f) = ne_eqb (bit_and a b) 0 there
+common_and : (a b : ℕ) → Common a b → eqb (bit_and a b) 0 ≡ false
+common_and a b (k, e, f) = ne_eqb (bit_and a b) 0 there
   where
     both : bit_and a b / 2 ^ k % 2 ^ 1 ≡ bit_and (a / 2 ^ k % 2 ^ 1) (b / 2 ^ k % 2 ^ 1)
     both = rw (and_shr a b k, and_mod (a / 2 ^ k) (b / 2 ^ k) 1)
@@ -31,9 +31,9 @@ abbrev Follows : ℕ → ℕ → Type 0
 Follows a b = (bit_and a b ≡ 0 → ⊥) → Common a b
 
 -- the lowest bits, and those above them
-and-common : (n a b : ℕ) → a < 2 ^ n → Follows a b
-and-common zero a b l h = let z : a ≡ 0 = omega arith in absurd (h (rw z (and_zero_l b)))
-and-common (suc n) a b l h = low (λ k. and-common n (a / 2) (b / 2) (omega (arith, pow-suc 2 n)) k) (eqb (a % 2) 1) (eqb (b % 2) 1) refl refl
+and_common : (n a b : ℕ) → a < 2 ^ n → Follows a b
+and_common zero a b l h = let z : a ≡ 0 = omega arith in absurd (h (rw z (and_zero_l b)))
+and_common (suc n) a b l h = low (λ k. and_common n (a / 2) (b / 2) (omega (arith, pow-suc 2 n)) k) (eqb (a % 2) 1) (eqb (b % 2) 1) refl refl
   where
     up : (c k : ℕ) → c / 2 / 2 ^ k ≡ c / 2 ^ (1 + k)
     up c k = shr-shr c 1 k
@@ -54,4 +54,4 @@ below_power zero = omega arith
 below_power (suc n) = omega (arith, pow-suc 2 n, below_power n)
 
 pub shares : (a b : ℕ) → (eqb (bit_and a b) 0 ≡ false) ↔ Common a b
-shares a b = (λ e. and-common a a b (below_power a) (eqb-false _ _ e), common-and a b)
+shares a b = (λ e. and_common a a b (below_power a) (eqb-false _ _ e), common_and a b)

@@ -25,8 +25,8 @@ module _ (state : List ℕ) (k : ℕ) (slots : List ℕ) where
     decides e = rw there e
 
     -- the record is refused
-    pub no-state : {r : Refusal} → read_checked 0 state ≡ Refused r → outcome (number_of r) (tt, slots) ≡ write_call state k slots
-    no-state {r} e = ap (called of_write tt) (is-refused {r = r} _ Refused slots refl (decides e))
+    pub no_state_lem : {r : Refusal} → read_checked 0 state ≡ Refused r → outcome (number_of r) (tt, slots) ≡ write_call state k slots
+    no_state_lem {r} e = ap (called of_write tt) (is-refused {r = r} _ Refused slots refl (decides e))
 
     -- neither
     pub written : {left : List ℕ} → read_checked 0 state ≡ Passed → left ≡ slot_set k (record_of (state_of (slot_at 0 state))) slots

@@ -2,6 +2,6 @@
 use mathlib.Core.Path.{◌≡◌, refl}
 use Rattle.chart.specs.Chart.{class_of, filled, count}
 
-pub filled-57 : count filled 256 ≡ 57
+pub filled_57 : count filled 256 ≡ 57
 unfolding class_of count
-filled-57 = refl
+filled_57 = refl

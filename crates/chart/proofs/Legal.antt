@@ -22,9 +22,9 @@ abbrev nothing : Decoded → Bool
 nothing (Legal i) = false
 nothing Illegal = true
 
-is-nothing : (d : Decoded) → T (nothing d) → Nothing d
-is-nothing (Legal i) t = absurd t
-is-nothing Illegal t = refl
+is_nothing : (d : Decoded) → T (nothing d) → Nothing d
+is_nothing (Legal i) t = absurd t
+is_nothing Illegal t = refl
 
 -- a seven-bit opcode has an entry at this funct3, or what it means there is nothing
 abbrev shown : ℕ → (ℕ → Decoded) → ℕ → Bool
@@ -38,7 +38,7 @@ module _ (w : ℕ) (z : charted w ≡ none) where
   -- an opcode's row, by the test at the eight values of funct3
   row : (op : ℕ) (meaning : ℕ → Decoded) → T (every (shown op meaning) 3 0) → opcode w ≡ op → Nothing (meaning (funct3 w))
   row op meaning t e =
-      is-nothing (meaning (funct3 w)) (rw (← e, ← five w, z) at (at (shown op meaning) 3 0 t (funct3 w) (omega arith) (omega arith)))
+      is_nothing (meaning (funct3 w)) (rw (← e, ← five w, z) at (at (shown op meaning) 3 0 t (funct3 w) (omega arith) (omega arith)))
 
   -- an opcode with an entry at each funct3
   full : (op : ℕ) (d : Decoded) → T (every (shown op (λ f3. d)) 3 0) → opcode w ≡ op → Nothing d
@@ -69,8 +69,8 @@ module _ (w : ℕ) (z : charted w ≡ none) where
       and (λ e. system)
       and tt)
 
-pub legal-charted : (w : ℕ) (i : Inst) → decoded w ≡ Legal i → charted w ≡ 0 → ⊥
-legal-charted w i l z =
+pub legal_charted : (w : ℕ) (i : Inst) → decoded w ≡ Legal i → charted w ≡ 0 → ⊥
+legal_charted w i l z =
     let d = none-legal w z in
     let impossible : ◌≡◌ {A = ℕ} 0 1 = cc in
     omega arith

@@ -25,7 +25,7 @@ use Rattle.assembly.specs.Scanner as S
 use Rattle.assembly.specs.Numbers.{value_of, allowed, Checked, right, wrong, checked, after, value}
 use Rattle.assembly.specs.Assembly.{instruction, faulty, half_of, code_of, unless_wrong, meaning_of, meaning}
 use Rattle.assembly.proofs.Places.{read-line}
-use Rattle.assembly.proofs.Only.{its, all-allowed, value-small}
+use Rattle.assembly.proofs.Only.{its, all-allowed, value_small}
 use Rattle.reader.specs.declared.Fields.{Fields}
 use Rattle.reader.specs.declared.Line.{Line}
 use Rattle.reader.specs.declared.Line.TheVariants.{Reads, Unreadable}
@@ -43,10 +43,10 @@ record Faulty (x : Fields) (p : ℕ) : Type 0 where
   at : x.place ≡ p
 
 -- the leftmost wrong number stays
-faulty-stays : (k : ℕ) (ws : List L.Word) (x : Fields) (p : ℕ) → Faulty x p → Faulty (taken_all k ws x) p
+faulty_stays : (k : ℕ) (ws : List L.Word) (x : Fields) (p : ℕ) → Faulty x p → Faulty (taken_all k ws x) p
 unfolding taken_all
-faulty-stays k [] x p h = h
-faulty-stays k (w ∷ ws) x p h = faulty-stays k ws (taken k w x) p (go (allowed k w))
+faulty_stays k [] x p h = h
+faulty_stays k (w ∷ ws) x p h = faulty_stays k ws (taken k w x) p (go (allowed k w))
   where
     go : (t : Bool) → Faulty (cond t (put w.of (value_of w.of w.digits) x) (fault w.place x)) p
     go true = record { is = h.is; at = h.at }
@@ -73,7 +73,7 @@ fields_told k (w ∷ ws) d s t v p = go (allowed k w) (λ d s t v. fields_told k
         → Told (cond b (checked k ws) (wrong w.place)) (taken_all k ws (cond b (put f u (fields d s t v false p)) (fault w.place (fields d s t v false p))))
         (fields (after 1 (cond (eqb 1 f) u d) ws) (after 2 (cond (eqb 2 f) u s) ws) (after 3 (cond (eqb 3 f) u t) ws) (after 4 (cond (eqb 4 f) u v) ws) false p)
     go true ih = ih (cond (eqb 1 f) u d) (cond (eqb 2 f) u s) (cond (eqb 3 f) u t) (cond (eqb 4 f) u v)
-    go false ih = faulty-stays k ws (fields d s t v true w.place) w.place (record { is = refl; at = refl })
+    go false ih = faulty_stays k ws (fields d s t v true w.place) w.place (record { is = refl; at = refl })
 
 -- ---- the code
 
@@ -161,7 +161,7 @@ module _ (s : List ℕ) (c : Bool) (k : ℕ) (x : Fields) (n : ℕ) (e : Reads c
           let l = read-line s c k ws (drop n s) f.line in
           let a = all-allowed k ws q in
           let t = its c k ws l.line l.known l.spelled q in
-          let same : inst_read k x ≡ instruction k ws = ap (inst_read k) h ∙ (λ i. built (parts k (small (value 1 ws) (value-small l.spelled k 1 refl a) i) (small (value 2 ws) (value-small l.spelled k 2 refl a) i) (small (value 3 ws) (value-small l.spelled k 3 refl a) i) (value 4 ws))) in (
+          let same : inst_read k x ≡ instruction k ws = ap (inst_read k) h ∙ (λ i. built (parts k (small (value 1 ws) (value_small l.spelled k 1 refl a) i) (small (value 2 ws) (value_small l.spelled k 2 refl a) i) (small (value 3 ws) (value_small l.spelled k 3 refl a) i) (value 4 ws))) in (
             ap in_range same ∙ is_true _ t.ranged,
             ap (λ (i : Inst). code_of c i (drop n s)) same ∙ sym (reading ∙ ap (λ (t : Checked). unless_wrong t (code_of c (instruction k ws) (drop n s))) q),
           )

@@ -8,9 +8,9 @@ use Rattle.text.specs.Names.{names, name_at}
 use Rattle.text.specs.Text.{operands_of, text_of}
 use Rattle.definitions.specs.Vectors.{VectorsHold}
 
-pub vectors-hold : VectorsHold
+pub vectors_hold : VectorsHold
 unfolding decoded in_range word_of expanded decimal_by decimal signed_decimal names name_at operands_of text_of
-vectors-hold = record {
+vectors_hold = record {
   words = (refl, (refl, (refl, (refl, (refl, (refl, (refl, (refl, (refl, tt)))))))));
   no_words = refl;
   quadrant0 = ((refl, refl), ((refl, refl), ((refl, refl), tt)));

@@ -16,7 +16,7 @@ use Rattle.answers.specs.declared.Refusal.TheVariants as R
 use Rattle.answers.specs.declared.Check.{Check}
 use Rattle.answers.specs.declared.Check.TheVariants.{Passed, Refused}
 use Rattle.answers.proofs.Entries.{is-refused}
-use Rattle.answers.proofs.Order.{apart, Says, no_rows, then-row}
+use Rattle.answers.proofs.Order.{apart, Says, no_rows, then_row}
 use Rattle.ascii.specs.Rooms.{Wrote}
 use Rattle.ascii.proofs.Rooms.{at_front}
 use Rattle.isa.specs.declared.Inst.{Inst}
@@ -25,21 +25,21 @@ use Rattle.isa.specs.declared.Decoded.TheVariants.{Legal, Illegal}
 use Rattle.isa.specs.Decoding.{decoded}
 use Rattle.isa.specs.Rvc.{expanded}
 use Rattle.isa.specs.Answers.{of_decoded}
-use Rattle.roundtrip.proofs.Words.{decoded-in-range}
+use Rattle.roundtrip.proofs.Words.{decoded_in_range}
 use Rattle.text.specs.Text.{text_of, short_text_of}
-use Rattle.text.proofs.Lengths.{text-fits}
-use Rattle.text.proofs.ShortLengths.{short-longest}
+use Rattle.text.proofs.Lengths.{text_fits}
+use Rattle.text.proofs.ShortLengths.{short_longest}
 use Rattle.disassembler.specs.declared.Written.{Written}
 use Rattle.disassembler.specs.declared.Written.TheVariants as W
 use Rattle.disassembler.specs.Entries.{room_checked, legal_checked, text_filled, text_entry}
 
 -- the text of what 32 bits mean
 pub word_fits : (bits : ℕ) {d : Decoded} {i : Inst} → d ≡ decoded bits → d ≡ Legal i → length (text_of i) ≤ 19
-word_fits bits {i = i} e told = text-fits i (decoded-in-range bits i (sym e ∙ told))
+word_fits bits {i = i} e told = text_fits i (decoded_in_range bits i (sym e ∙ told))
 
 -- the text of what 16 bits mean
 pub half-fits : (bits : ℕ) {d : Decoded} {i : Inst} → d ≡ expanded bits → d ≡ Legal i → length (short_text_of i) ≤ 18
-half-fits bits {i = i} e told = short-longest bits i (sym e ∙ told)
+half-fits bits {i = i} e told = short_longest bits i (sym e ∙ told)
 
 -- before any other test
 pub no_room : (check : Check) (o : Outcome Written (List ℕ)) (room : List ℕ) → length room < 24
@@ -63,8 +63,8 @@ module _ (room : List ℕ) (wide : 24 ≤ length room) where
 
 -- the rows of the tests
 pub room_says : (check : Check) (room : List ℕ) {rows : ℕ → Type 0} → Says check rows → Says (room_checked room check) (refusal 6 (length room < 24) rows)
-room_says check room q = then-row (leb 24 (length room)) R.Room check (leb-false _ _, lt-leb _ _) q
+room_says check room q = then_row (leb 24 (length room)) R.Room check (leb-false _ _, lt-leb _ _) q
 
-pub legal-says : (d : Decoded) → Says (legal_checked d) (refusal 7 (of_decoded d ≡ refused_with 7) no_refusal)
-legal-says (Legal i) = then-row true R.NoInstruction Passed (λ e. absurd (false≢true (sym e)), λ e. absurd (apart e)) no_rows
-legal-says Illegal = then-row false R.NoInstruction Passed (λ e. refl, λ e. refl) no_rows
+pub legal_says : (d : Decoded) → Says (legal_checked d) (refusal 7 (of_decoded d ≡ refused_with 7) no_refusal)
+legal_says (Legal i) = then_row true R.NoInstruction Passed (λ e. absurd (false≢true (sym e)), λ e. absurd (apart e)) no_rows
+legal_says Illegal = then_row false R.NoInstruction Passed (λ e. refl, λ e. refl) no_rows

@@ -13,7 +13,7 @@ use Rattle.answers.proofs.Numbers.{stop-numbered}
 use Rattle.answers.specs.declared.Cause.{Cause}
 use Rattle.answers.specs.declared.Stop.TheVariants.{CountFull}
 use Rattle.word.specs.Bits.{flag}
-use Rattle.word.proofs.Bools.{flag-le}
+use Rattle.word.proofs.Bools.{flag_le}
 use Rattle.state.specs.declared.State.{State}
 use Rattle.state.specs.States.{halted}
 use Rattle.boards.specs.Boards.{Board}
@@ -22,7 +22,7 @@ use Rattle.access.specs.declared.Effect.{Effect}
 use Rattle.access.specs.declared.Effect.TheVariants.{Next, Halt}
 use Rattle.execute.specs.declared.Act.{Act}
 use Rattle.execute.specs.Execution.{performed}
-use Rattle.execute.proofs.Acts.{Comes, sets, loads, into-memory, into-row, zero-into-row, stops, StopsBy}
+use Rattle.execute.proofs.Acts.{Comes, sets, loads, into_memory, into_row, zero_into_row, stops, StopsBy}
 use Rattle.engine.specs.Steps.{World, masked, onward, act_at, asked, applied, after, paused, stepped, ran, goes_on, completes, retired}
 use Rattle.engine.proofs.Walk.{walk}
 
@@ -87,14 +87,14 @@ unfolding ran retired
 retired-add zero b w = rw (zero-add b) (omega arith)
 retired-add (suc a) b w = rw suc-add (let h = retired-add a b (stepped w) in omega arith)
 
-retired-le : (n : ℕ) (w : World) → retired n w ≤ n
+retired_le : (n : ℕ) (w : World) → retired n w ≤ n
 unfolding retired
-retired-le zero w = omega arith
-retired-le (suc n) w = omega (arith, flag-le (completes w), retired-le n (stepped w))
+retired_le zero w = omega arith
+retired_le (suc n) w = omega (arith, flag_le (completes w), retired_le n (stepped w))
 
 -- a run retires at most the budget, and its count grows by that
 pub counts_up : (n : ℕ) (w : World) → (retired n w ≤ n) × ((ran n w).st.count ≡ w.st.count + retired n w)
-counts_up n w = (retired-le n w, count-ran n w)
+counts_up n w = (retired_le n w, count-ran n w)
 
 -- ---- a step that stops
 
@@ -102,36 +102,36 @@ counts_up n w = (retired-le n w, count-ran n w)
 clean : {own : ℕ} {b : Board} {a : Act} {d : Done} → Comes own b a d → goes_on d.answer ≡ false → (why : Cause) × StopsBy a why × (d ≡ outcome (Halt why) b)
 clean (sets rd v pc) e = absurd (omega (arith, ap flag e))
 clean (loads o rd a pc v h) e = absurd (omega (arith, ap flag e))
-clean (into-memory o v a pc i p h) e = absurd (omega (arith, ap flag e))
-clean (into-row o v a pc k p h mine z ne) e = absurd (omega (arith, ap flag e))
-clean (zero-into-row o v a pc k p z) e = absurd (omega (arith, ap flag e))
+clean (into_memory o v a pc i p h) e = absurd (omega (arith, ap flag e))
+clean (into_row o v a pc k p h mine z ne) e = absurd (omega (arith, ap flag e))
+clean (zero_into_row o v a pc k p z) e = absurd (omega (arith, ap flag e))
 clean (stops a why h) e = (why, h, refl)
 
-pub stops-with : (w : World) → paused w ≡ true → completes w ≡ false → (why : Cause) × StopsBy (asked w) why × (stepped w ≡ onward w (halted why w.st) w.board)
+pub stops_with : (w : World) → paused w ≡ true → completes w ≡ false → (why : Cause) × StopsBy (asked w) why × (stepped w ≡ onward w (halted why w.st) w.board)
 unfolding applied
-stops-with w p =
+stops_with w p =
     walk w (λ c v. c ≡ false → (why : Cause) × StopsBy (asked w) why × (v ≡ onward w (halted why w.st) w.board))
     (λ e. absurd (omega (arith, ap flag (sym e ∙ p))))
     (λ e d c f. let s = clean c f in (s.0, s.1, ap (λ o. after o w) s.2))
 
 -- a step that completes leaves the stop number
-stays-paused : (w : World) → completes w ≡ true → paused (stepped w) ≡ true
+stays_paused : (w : World) → completes w ≡ true → paused (stepped w) ≡ true
 unfolding applied
-stays-paused w = walk w (λ c v. c ≡ true → paused v ≡ true) (λ e t. absurd (omega (arith, ap flag t))) (λ p d c. go d.answer p)
+stays_paused w = walk w (λ c v. c ≡ true → paused v ≡ true) (λ e t. absurd (omega (arith, ap flag t))) (λ p d c. go d.answer p)
   where
     go : (e : Effect) → paused w ≡ true → goes_on e ≡ true → eqb (applied e w.st).stop 0 ≡ true
     go (Next rd v pc) p t = p
     go (Halt why) p t = cc
 
 -- a run that began paused is paused exactly if it has retired the budget: a step that stops ends it, for what follows changes nothing
-pub paused-exactly : (n : ℕ) (w : World) → paused w ≡ true → (paused (ran n w) ≡ true) ↔ (retired n w ≡ n)
+pub paused_exactly : (n : ℕ) (w : World) → paused w ≡ true → (paused (ran n w) ≡ true) ↔ (retired n w ≡ n)
 unfolding ran retired
-paused-exactly zero w p = (λ e. refl, λ e. p)
-paused-exactly (suc n) w p = go (completes w) refl (paused-exactly n (stepped w))
+paused_exactly zero w p = (λ e. refl, λ e. p)
+paused_exactly (suc n) w p = go (completes w) refl (paused_exactly n (stepped w))
   where
     stopped : completes w ≡ false → paused (ran n (stepped w)) ≡ true → ⊥
     stopped t e =
-        let c = stops-with w p t in
+        let c = stops_with w p t in
         let least = (stop-numbered c.0.stop).1 in
         let s : (stepped w).st.stop ≡ stop_number c.0.stop = ap (λ (v : World). v.st.stop) c.2 in
         let r = ran_stopped n (stepped w) (λ z. omega arith) in
@@ -139,31 +139,31 @@ paused-exactly (suc n) w p = go (completes w) refl (paused-exactly n (stepped w)
 
     go : (b : Bool) → completes w ≡ b → (paused (stepped w) ≡ true → (paused (ran n (stepped w)) ≡ true) ↔ (retired n (stepped w) ≡ n))
         → (paused (ran n (stepped w)) ≡ true) ↔ (flag (completes w) + retired n (stepped w) ≡ suc n)
-    go true t ih = let i = ih (stays-paused w t) in (λ e. omega (arith, ap flag t, i.0 e), λ e. i.1 (omega (arith, ap flag t)))
-    go false t ih = (λ e. absurd (stopped t e), λ e. absurd (omega (arith, ap flag t, retired-le n (stepped w))))
+    go true t ih = let i = ih (stays_paused w t) in (λ e. omega (arith, ap flag t, i.0 e), λ e. i.1 (omega (arith, ap flag t)))
+    go false t ih = (λ e. absurd (stopped t e), λ e. absurd (omega (arith, ap flag t, retired_le n (stepped w))))
 
 -- ---- one step, as the code takes it
 
 -- a turn of the loop
-pub ran-turn : {w' : World} (n : ℕ) (w : World) → 0 < n → w' ≡ stepped w → ran (n - 1) w' ≡ ran n w
+pub ran_turn : {w' : World} (n : ℕ) (w : World) → 0 < n → w' ≡ stepped w → ran (n - 1) w' ≡ ran n w
 unfolding ran
-ran-turn zero w h e = absurd (omega arith)
-ran-turn (suc n) w h e = let k : suc n - 1 ≡ n = omega arith in rw (k, e)
+ran_turn zero w h e = absurd (omega arith)
+ran_turn (suc n) w h e = let k : suc n - 1 ≡ n = omega arith in rw (k, e)
 
 -- a step comes to what its instruction asks for, performed and applied
-pub step-does : {a : Act} {e : Effect} {b : Board} {s : State} (w : World) → w.st.stop ≡ 0 → w.st.count < 2 ^ 64 - 1
+pub step_does : {a : Act} {e : Effect} {b : Board} {s : State} (w : World) → w.st.stop ≡ 0 → w.st.count < 2 ^ 64 - 1
     → a ≡ act_at w.st.pc w.st.x w.board.mem → outcome e b ≡ performed w.masks.own a w.board → s ≡ applied e w.st → onward w s b ≡ stepped w
 unfolding stepped asked
-step-does w h k t p e = rw (eq-eqb _ _ h, lt-ltb _ _ k, ← t, ← p, e)
+step_does w h k t p e = rw (eq-eqb _ _ h, lt-ltb _ _ k, ← t, ← p, e)
 
 -- a step at the last count stops
-pub step-full : (w : World) → w.st.stop ≡ 0 → 2 ^ 64 - 1 ≤ w.st.count → onward w (halted (nowhere CountFull) w.st) w.board ≡ stepped w
+pub step_full : (w : World) → w.st.stop ≡ 0 → 2 ^ 64 - 1 ≤ w.st.count → onward w (halted (nowhere CountFull) w.st) w.board ≡ stepped w
 unfolding stepped asked performed applied
-step-full w h k = rw (eq-eqb _ _ h, le-ltb _ _ k)
+step_full w h k = rw (eq-eqb _ _ h, le-ltb _ _ k)
 
 -- .. and so does the run
-pub ran-full : (n : ℕ) (w : World) → 0 < n → w.st.stop ≡ 0 → 2 ^ 64 - 1 ≤ w.st.count → onward w (halted (nowhere CountFull) w.st) w.board ≡ ran n w
-ran-full n w p h k =
+pub ran_full : (n : ℕ) (w : World) → 0 < n → w.st.stop ≡ 0 → 2 ^ 64 - 1 ≤ w.st.count → onward w (halted (nowhere CountFull) w.st) w.board ≡ ran n w
+ran_full n w p h k =
     let full : World = onward w (halted (nowhere CountFull) w.st) w.board in
-    let e : full ≡ stepped w = step-full w h k in
-    sym (ran_stopped (n - 1) full (λ z. omega arith)) ∙ ran-turn n w p e
+    let e : full ≡ stepped w = step_full w h k in
+    sym (ran_stopped (n - 1) full (λ z. omega arith)) ∙ ran_turn n w p e

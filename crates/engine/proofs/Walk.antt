@@ -30,9 +30,9 @@ module _ (w : World) (P : Act → Type 0) (at-full : P (Ends (nowhere CountFull)
     by_fetch room (Instruction i len) e = at-inst i len room e
     by_fetch room (Fails why) e = at-fail why e
 
-    pub by-asked : P (asked w)
+    pub by_asked : P (asked w)
     unfolding asked
-    by-asked = go (ltb w.st.count (2 ^ 64 - 1)) refl
+    by_asked = go (ltb w.st.count (2 ^ 64 - 1)) refl
       where
         go : (b : Bool) → ltb w.st.count (2 ^ 64 - 1) ≡ b → P (cond b (act_at w.st.pc w.st.x w.board.mem) (Ends (nowhere CountFull)))
         go true e = by_fetch (ltb-true _ _ e) (fetched w.st.pc w.board.mem) refl

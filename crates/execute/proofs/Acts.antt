@@ -20,7 +20,7 @@ use Rattle.octets.specs.Widths.{width_bytes}
 use Rattle.octets.proofs.Bytes.{load_lt}
 use Rattle.place.specs.declared.Place.{Place}
 use Rattle.place.specs.declared.Place.TheVariants.{Memory, Fuse, Misaligned, Outside}
-use Rattle.place.proofs.Placed.{placed-memory, placed_fuse}
+use Rattle.place.proofs.Placed.{placed_memory, placed_fuse}
 use Rattle.fuses.specs.Row.{value_at, mark_at, burnt, word_stored, owns}
 use Rattle.fuses.specs.declared.Stored.{Stored}
 use Rattle.fuses.proofs.Burning.{WordStores, burns, no_pulse, refused, stores_as}
@@ -45,35 +45,35 @@ pub data Comes (own : ℕ) (b : Board) : Act → Done → Type 0 where
   sets : (rd : Reg) (v pc : ℕ) → Comes own b (Sets rd v pc) (outcome (Next rd v pc) b)
   -- what is loaded fits, for bytes are bytes
   loads : (o : LoadOp) (rd : Reg) (a pc v : ℕ) → (BoardFits b → v < 2 ^ 32) → Comes own b (Loads o rd a pc) (outcome (Next rd v pc) b)
-  into-memory : (o : StoreOp) (v a pc i : ℕ) → store_place o a b ≡ Memory i → i + width_bytes (store_width o) ≤ length b.mem
+  into_memory : (o : StoreOp) (v a pc i : ℕ) → store_place o a b ≡ Memory i → i + width_bytes (store_width o) ≤ length b.mem
       → Comes own b (Stores o v a pc) (outcome (on_to pc) (board (store (width_bytes (store_width o)) i v b.mem) b.row))
-  into-row : (o : StoreOp) (v a pc k : ℕ) → store_place o a b ≡ Fuse k → k < 64 → owns own k ≡ true → mark_at k b.row ≡ 0 → (low 32 v ≡ 0 → ⊥)
+  into_row : (o : StoreOp) (v a pc k : ℕ) → store_place o a b ≡ Fuse k → k < 64 → owns own k ≡ true → mark_at k b.row ≡ 0 → (low 32 v ≡ 0 → ⊥)
       → Comes own b (Stores o v a pc) (outcome (on_to pc) (board b.mem (burnt k v b.row)))
   -- zero to a word of the row
-  zero-into-row : (o : StoreOp) (v a pc k : ℕ) → store_place o a b ≡ Fuse k → low 32 v ≡ 0 → Comes own b (Stores o v a pc) (outcome (on_to pc) b)
+  zero_into_row : (o : StoreOp) (v a pc k : ℕ) → store_place o a b ≡ Fuse k → low 32 v ≡ 0 → Comes own b (Stores o v a pc) (outcome (on_to pc) b)
   stops : (a : Act) (why : Cause) → StopsBy a why → Comes own b a (outcome (Halt why) b)
 
 module _ (own : ℕ) (b : Board) where
-  load-comes : (p : Place) (o : LoadOp) (rd : Reg) (a pc : ℕ) → Comes own b (Loads o rd a pc) (outcome (loaded_from own p o rd a pc b) b)
+  load_comes : (p : Place) (o : LoadOp) (rd : Reg) (a pc : ℕ) → Comes own b (Loads o rd a pc) (outcome (loaded_from own p o rd a pc b) b)
   unfolding loaded_from loaded_from_row
-  load-comes (Memory i) o rd a pc = loads o rd a pc _ (λ f. extended_lt o _ (load_lt (width_bytes (load_width o)) i b.mem f.mem_bytes))
-  load-comes (Fuse k) o rd a pc = go (owns own k)
+  load_comes (Memory i) o rd a pc = loads o rd a pc _ (λ f. extended_lt o _ (load_lt (width_bytes (load_width o)) i b.mem f.mem_bytes))
+  load_comes (Fuse k) o rd a pc = go (owns own k)
     where
       go : (mine : Bool) → Comes own b (Loads o rd a pc) (outcome (cond mine (Next rd (value_at k b.row) pc) (Halt (cause S.NotOwned a))) b)
       go true = loads o rd a pc _ (λ f. load_lt 4 (8 * k) b.row f.row_bytes)
       go false = stops (Loads o rd a pc) (cause S.NotOwned a) (inr (inr refl))
-  load-comes Misaligned o rd a pc = stops (Loads o rd a pc) (cause S.LoadMisaligned a) (inl refl)
-  load-comes Outside o rd a pc = stops (Loads o rd a pc) (cause S.LoadOutside a) (inr (inl refl))
+  load_comes Misaligned o rd a pc = stops (Loads o rd a pc) (cause S.LoadMisaligned a) (inl refl)
+  load_comes Outside o rd a pc = stops (Loads o rd a pc) (cause S.LoadOutside a) (inr (inl refl))
 
-  store-comes : (p : Place) (o : StoreOp) (v a pc : ℕ) → store_place o a b ≡ p → Comes own b (Stores o v a pc) (stored_to own p o v a pc b)
+  store_comes : (p : Place) (o : StoreOp) (v a pc : ℕ) → store_place o a b ≡ p → Comes own b (Stores o v a pc) (stored_to own p o v a pc b)
   unfolding stored_to stored_in_row
-  store-comes (Memory i) o v a pc e = into-memory o v a pc i e (placed-memory _ a _ i e).1
-  store-comes (Fuse k) o v a pc e = go (owns own k) refl
+  store_comes (Memory i) o v a pc e = into_memory o v a pc i e (placed_memory _ a _ i e).1
+  store_comes (Fuse k) o v a pc e = go (owns own k) refl
     where
       done : owns own k ≡ true → {d : Outcome Stored (List ℕ)} → WordStores k v b.row d
           → Comes own b (Stores o v a pc) (outcome (of_stored d.answer a pc) (board b.mem d.lent))
-      done mine (burns z ne) = into-row o v a pc k e (placed_fuse _ a _ k e) mine z ne
-      done mine (no_pulse z) = zero-into-row o v a pc k e z
+      done mine (burns z ne) = into_row o v a pc k e (placed_fuse _ a _ k e) mine z ne
+      done mine (no_pulse z) = zero_into_row o v a pc k e z
       done mine refused = stops (Stores o v a pc) (cause S.AlreadyBurnt a) (inr (inr (inr refl)))
 
       in_row : Bool → Outcome Effect (List ℕ)
@@ -83,14 +83,14 @@ module _ (own : ℕ) (b : Board) where
           → Comes own b (Stores o v a pc) (outcome (in_row mine).answer (board b.mem (in_row mine).lent))
       go true mine = done mine (stores_as k v b.row)
       go false mine = stops (Stores o v a pc) (cause S.NotOwned a) (inr (inr (inl refl)))
-  store-comes Misaligned o v a pc e = stops (Stores o v a pc) (cause S.StoreMisaligned a) (inl refl)
-  store-comes Outside o v a pc e = stops (Stores o v a pc) (cause S.StoreOutside a) (inr (inl refl))
+  store_comes Misaligned o v a pc e = stops (Stores o v a pc) (cause S.StoreMisaligned a) (inl refl)
+  store_comes Outside o v a pc e = stops (Stores o v a pc) (cause S.StoreOutside a) (inr (inl refl))
 
   pub comes : (a : Act) → Comes own b a (performed own a b)
   unfolding performed
   comes (Sets rd v pc) = sets rd v pc
-  comes (Loads o rd a pc) = load-comes (load_place o a b) o rd a pc
-  comes (Stores o v a pc) = store-comes (store_place o a b) o v a pc refl
+  comes (Loads o rd a pc) = load_comes (load_place o a b) o rd a pc
+  comes (Stores o v a pc) = store_comes (store_place o a b) o v a pc refl
   comes (Ends why) = stops (Ends why) why refl
 
 -- ---- an instruction that ends a run does so by ecall or ebreak, which have no address

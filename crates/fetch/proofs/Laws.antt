@@ -18,10 +18,10 @@ use Rattle.isa.specs.declared.Decoded.TheVariants.{Legal, Illegal}
 use Rattle.isa.specs.Decoding.{decoded}
 use Rattle.isa.specs.Encoding.{in_range}
 use Rattle.isa.specs.Rvc.{expanded}
-use Rattle.roundtrip.proofs.Words.{decoded-in-range}
-use Rattle.shortest.proofs.Shortest.{expanded-in-range}
+use Rattle.roundtrip.proofs.Words.{decoded_in_range}
+use Rattle.shortest.proofs.Shortest.{expanded_in_range}
 use Rattle.octets.specs.Bytes.{load}
-use Rattle.octets.proofs.Bytes.{Bytes, loaded-lt}
+use Rattle.octets.proofs.Bytes.{Bytes, loaded_lt}
 use Rattle.fetch.specs.declared.Fetched.{Fetched}
 use Rattle.fetch.specs.declared.Fetched.TheVariants.{Instruction, Fails}
 use Rattle.fetch.specs.Fetching.{illegal_at, outside_at, legal, fetched_with, fetched}
@@ -49,9 +49,9 @@ module _ (pc : ℕ) (m : List ℕ) where
   Tells (Instruction i len) = Unit {0}
   Tells (Fails why) = FailsBy pc m why
 
-  legal-tells : (d : Decoded) (len : ℕ) → Tells (legal d pc len)
-  legal-tells (Legal i) len = tt
-  legal-tells Illegal len = inl refl
+  legal_tells : (d : Decoded) (len : ℕ) → Tells (legal d pc len)
+  legal_tells (Legal i) len = tt
+  legal_tells Illegal len = inl refl
 
   tells : Tells (fetched pc m)
   unfolding fetched fetched_with
@@ -62,8 +62,8 @@ module _ (pc : ℕ) (m : List ℕ) where
       go true e =
           either Tells (eqb (load 2 pc m % 32) 31) _ _ (inl refl)
           (either Tells (eqb (load 2 pc m % 4) 3) _ _
-          (either Tells (leb (pc + 4) (length m)) _ _ (legal-tells (decoded (load 4 pc m)) 4) (inr (rw e)))
-          (legal-tells (expanded (load 2 pc m)) 2))
+          (either Tells (leb (pc + 4) (length m)) _ _ (legal_tells (decoded (load 4 pc m)) 4) (inr (rw e)))
+          (legal_tells (expanded (load 2 pc m)) 2))
       go false e = inr (rw e)
 
   pub fetch_fails : {why : Cause} → fetched pc m ≡ Fails why → FailsBy pc m why
@@ -72,7 +72,7 @@ module _ (pc : ℕ) (m : List ℕ) where
 -- ---- an instruction fetched is in range, and its two or four bytes lie within memory
 
 pub record Real (pc : ℕ) (m : List ℕ) (i : Inst) (len : ℕ) : Type 0 where
-  pub in-range : in_range i ≡ true
+  pub in_range_lem : in_range i ≡ true
   pub size : (len ≡ 2) ⊎ (len ≡ 4)
   pub within : pc + len ≤ length m
 
@@ -82,7 +82,7 @@ module _ (pc : ℕ) (m : List ℕ) where
   Sound (Fails stop) = Unit {0}
 
   legal_sound : (d : Decoded) (len : ℕ) → ((i : Inst) → d ≡ Legal i → in_range i ≡ true) → (len ≡ 2) ⊎ (len ≡ 4) → pc + len ≤ length m → Sound (legal d pc len)
-  legal_sound (Legal i) len r s w = record { in-range = r i refl; size = s; within = w }
+  legal_sound (Legal i) len r s w = record { in_range_lem = r i refl; size = s; within = w }
   legal_sound Illegal len r s w = tt
 
   module _ (bytes : Bytes m) where
@@ -91,10 +91,10 @@ module _ (pc : ℕ) (m : List ℕ) where
     with_sound h = either Sound (eqb (load 2 pc m % 4) 3) _ _ (four (leb (pc + 4) (length m)) refl) short
       where
         short : Sound (legal (expanded (load 2 pc m)) pc 2)
-        short = legal_sound (expanded (load 2 pc m)) 2 (λ i. expanded-in-range (load 2 pc m) i (loaded-lt 2 pc m bytes)) (inl refl) h
+        short = legal_sound (expanded (load 2 pc m)) 2 (λ i. expanded_in_range (load 2 pc m) i (loaded_lt 2 pc m bytes)) (inl refl) h
 
         four : (t : Bool) → leb (pc + 4) (length m) ≡ t → Sound (cond t (legal (decoded (load 4 pc m)) pc 4) (outside_at (sum pc 2)))
-        four true e = legal_sound (decoded (load 4 pc m)) 4 (decoded-in-range (load 4 pc m)) (inr refl) (leb-true _ _ e)
+        four true e = legal_sound (decoded (load 4 pc m)) 4 (decoded_in_range (load 4 pc m)) (inr refl) (leb-true _ _ e)
         four false e = tt
 
     sound : Sound (fetched pc m)

@@ -52,8 +52,8 @@ module _ (k v : ℕ) (f : List ℕ) (h : k < 64) (l : length f ≡ 512) where
       ∙ load-store-other 4 (8 * k) v n b f (⊎_map (λ q. q) (λ q. omega arith) s) (omega arith)
 
   -- bytes of another word's record
-  in-another : (j n b : ℕ) → (j ≡ k → ⊥) → 8 * j ≤ b → b + n ≤ 8 * j + 8 → load n b (burnt k v f) ≡ load n b f
-  in-another j n b ne s t = beside n b (go (ltb j k) refl)
+  in_another : (j n b : ℕ) → (j ≡ k → ⊥) → 8 * j ≤ b → b + n ≤ 8 * j + 8 → load n b (burnt k v f) ≡ load n b f
+  in_another j n b ne s t = beside n b (go (ltb j k) refl)
     where
       go : (c : Bool) → ltb j k ≡ c → (b + n ≤ 8 * k) ⊎ (8 * k + 5 ≤ b)
       go true e = let q : j < k = ltb-true j k e in inl (omega arith)
@@ -70,37 +70,37 @@ module _ (k v : ℕ) (f : List ℕ) (h : k < 64) (l : length f ≡ 512) where
       ∙ load_store 4 (8 * k) v f (omega arith)
 
   mark-there : (j : ℕ) → (j ≡ k → ⊥) → mark_at j (burnt k v f) ≡ mark_at j f
-  mark-there j ne = in-another j 1 (8 * j + 4) ne (omega arith) (omega arith)
+  mark-there j ne = in_another j 1 (8 * j + 4) ne (omega arith) (omega arith)
 
   value_there : (j : ℕ) → (j ≡ k → ⊥) → value_at j (burnt k v f) ≡ value_at j f
-  value_there j ne = in-another j 4 (8 * j) ne (omega arith) (omega arith)
+  value_there j ne = in_another j 4 (8 * j) ne (omega arith) (omega arith)
 
-  rules-here : (low 32 v ≡ 0 → ⊥) → keeps_rules k f ≡ true → keeps_rules k (burnt k v f) ≡ true
-  rules-here ne e =
+  rules_here : (low 32 v ≡ 0 → ⊥) → keeps_rules k f ≡ true → keeps_rules k (burnt k v f) ≡ true
+  rules_here ne e =
       let t = ((and-eq-true_iff (eqb (rest_at k f) 0) ((eqb (mark_at k f) 1 && not (eqb (value_at k f) 0)) || (eqb (mark_at k f) 0 && eqb (value_at k f) 0))).0 e).0 in
       rw (mark-here, beside 3 (8 * k + 5) (inr (omega arith)), t, value-here, ne_eqb (low 32 v) 0 ne)
 
-  rules-there : (j : ℕ) → (j ≡ k → ⊥) → keeps_rules j (burnt k v f) ≡ keeps_rules j f
-  rules-there j ne = rw (mark-there j ne, in-another j 3 (8 * j + 5) ne (omega arith) (omega arith), value_there j ne)
+  rules_there : (j : ℕ) → (j ≡ k → ⊥) → keeps_rules j (burnt k v f) ≡ keeps_rules j f
+  rules_there j ne = rw (mark-there j ne, in_another j 3 (8 * j + 5) ne (omega arith) (omega arith), value_there j ne)
 
-  rules-kept : (j : ℕ) → (low 32 v ≡ 0 → ⊥) → keeps_rules j f ≡ true → keeps_rules j (burnt k v f) ≡ true
-  rules-kept j ne r = go (eqb j k) refl
+  rules_kept : (j : ℕ) → (low 32 v ≡ 0 → ⊥) → keeps_rules j f ≡ true → keeps_rules j (burnt k v f) ≡ true
+  rules_kept j ne r = go (eqb j k) refl
     where
       go : (c : Bool) → eqb j k ≡ c → keeps_rules j (burnt k v f) ≡ true
-      go true e = let q : j ≡ k = eqb-true j k e in rw q (rules-here ne (rw q at r))
-      go false e = rules-there j (eqb-false j k e) ∙ r
+      go true e = let q : j ≡ k = eqb-true j k e in rw q (rules_here ne (rw q at r))
+      go false e = rules_there j (eqb-false j k e) ∙ r
 
-  all-kept : (n : ℕ) → (low 32 v ≡ 0 → ⊥) → all_keep n f ≡ true → all_keep n (burnt k v f) ≡ true
+  all_kept : (n : ℕ) → (low 32 v ≡ 0 → ⊥) → all_keep n f ≡ true → all_keep n (burnt k v f) ≡ true
   unfolding all_keep
-  all-kept zero ne e = refl
-  all-kept (suc n) ne e = let t = (and-eq-true_iff (all_keep n f) (keeps_rules n f)).0 e in rw (all-kept n ne t.0) (rules-kept n ne t.1)
+  all_kept zero ne e = refl
+  all_kept (suc n) ne e = let t = (and-eq-true_iff (all_keep n f) (keeps_rules n f)).0 e in rw (all_kept n ne t.0) (rules_kept n ne t.1)
 
 pub row-burnt : (k v : ℕ) (f : List ℕ) → k < 64 → (low 32 v ≡ 0 → ⊥) → Row f → Row (burnt k v f)
-row-burnt k v f h ne r = (length-burnt k v f h r.0, all-kept k v f h r.0 64 ne r.1)
+row-burnt k v f h ne r = (length-burnt k v f h r.0, all_kept k v f h r.0 64 ne r.1)
 
-pub burnt-below : (k v : ℕ) (f : List ℕ) → AllBelow (2 ^ 8) f → AllBelow (2 ^ 8) (burnt k v f)
+pub burnt_below : (k v : ℕ) (f : List ℕ) → AllBelow (2 ^ 8) f → AllBelow (2 ^ 8) (burnt k v f)
 unfolding burnt
-burnt-below k v f h = store_below 1 (8 * k + 4) 1 (store 4 (8 * k) v f) (store_below 4 (8 * k) v f h)
+burnt_below k v f h = store_below 1 (8 * k + 4) 1 (store 4 (8 * k) v f) (store_below 4 (8 * k) v f h)
 
 -- ---- a blank word burnt is one more
 
@@ -140,9 +140,9 @@ join a b = record {
 }
 
 -- a word that does not change has no turn
-no-turn : (m : ℕ) → flag (eqb m 0 && eqb m 1) ≡ 0
-no-turn zero = refl
-no-turn (suc m) = rw eqb-suc-zero
+no_turn : (m : ℕ) → flag (eqb m 0 && eqb m 1) ≡ 0
+no_turn zero = refl
+no_turn (suc m) = rw eqb-suc-zero
 
 -- whether a step from the row f burns, and the row after it
 pub data RowStep (f : List ℕ) : Bool → List ℕ → Type 0 where
@@ -152,9 +152,9 @@ pub data RowStep (f : List ℕ) : Bool → List ℕ → Type 0 where
 abbrev turned : ℕ → List ℕ → List ℕ → ℕ
 turned k f g = flag (eqb (mark_at k f) 0 && eqb (mark_at k g) 1)
 
-pub by-step : (k : ℕ) {f g : List ℕ} {b : Bool} → Row f → RowStep f b g → Leads k f g (flag b) (turned k f g)
-by-step k {f} r stays = rw (no-turn (mark_at k f)) (at_rest k f r)
-by-step k {f} r (burning j v h z ne) = record {
+pub by_step : (k : ℕ) {f g : List ℕ} {b : Bool} → Row f → RowStep f b g → Leads k f g (flag b) (turned k f g)
+by_step k {f} r stays = rw (no_turn (mark_at k f)) (at_rest k f r)
+by_step k {f} r (burning j v h z ne) = record {
   row = row-burnt j v f h ne r;
   words = one_more j v f h r.0 64 h z;
   mark = mark' (eqb k j) refl;
@@ -163,12 +163,12 @@ by-step k {f} r (burning j v h z ne) = record {
   where
     mark' : (c : Bool) → eqb k j ≡ c → turned k f (burnt j v f) + flag (eqb (mark_at k f) 1) ≡ flag (eqb (mark_at k (burnt j v f)) 1)
     mark' true e = let q : k ≡ j = eqb-true k j e in rw (q, mark-here j v f h r.0, z)
-    mark' false e = rw (mark-there j v f h r.0 k (eqb-false k j e), no-turn (mark_at k f)) (omega arith)
+    mark' false e = rw (mark-there j v f h r.0 k (eqb-false k j e), no_turn (mark_at k f)) (omega arith)
 
 -- a step that burns nothing leaves the row
-pub step-leaves : {f g : List ℕ} {b : Bool} → RowStep f b g → flag b ≡ 0 → g ≡ f
-step-leaves stays e = refl
-step-leaves (burning k v h z ne) e = absurd (omega arith)
+pub step_leaves : {f g : List ℕ} {b : Bool} → RowStep f b g → flag b ≡ 0 → g ≡ f
+step_leaves stays e = refl
+step_leaves (burning k v h z ne) e = absurd (omega arith)
 
 -- ---- a burnt word's value is never zero
 

@@ -27,9 +27,9 @@ rules value mark zero u e = let q : u ≡ mark = omega arith in rw q
 rules value mark (suc n) u e =
     rw (ne_eqb (suc n) 0 (λ z. omega arith), ne_eqb u 1 (λ z. omega arith), ne_eqb u 0 (λ z. omega arith))
 
-pub upper-rules : (k : ℕ) (row : List ℕ) → k < 64 → length row ≡ 512
+pub upper_rules : (k : ℕ) (row : List ℕ) → k < 64 → length row ≡ 512
     → ((eqb (load 4 (8 * k + 4) row) 1 && not (eqb (value_at k row) 0)) || (eqb (load 4 (8 * k + 4) row) 0 && eqb (value_at k row) 0)) ≡ keeps_rules k row
-upper-rules k row h l =
+upper_rules k row h l =
     let a : 8 * k + 4 + 1 ≡ 8 * k + 5 = omega arith in
     rules (value_at k row) (mark_at k row) (rest_at k row) (load 4 (8 * k + 4) row) (rw a at (load-add 1 3 (8 * k + 4) row (omega arith)))
 
@@ -91,8 +91,8 @@ lowest_breaks (suc n) row e = go (lowest_breaks n row) (all_keep n row) refl (ke
     go f true p false q e = record { within = omega arith; breaks = q; below = p }
     go f false p b q e = let s = f p in record { within = omega (arith, s.within); breaks = s.breaks; below = s.below }
 
-pub all-below : (n j : ℕ) (row : List ℕ) → all_keep n row ≡ true → j < n → keeps_rules j row ≡ true
-all-below n j row a h = go (keeps_rules j row) refl
+pub all_below : (n j : ℕ) (row : List ℕ) → all_keep n row ≡ true → j < n → keeps_rules j row ≡ true
+all_below n j row a h = go (keeps_rules j row) refl
   where
     go : (b : Bool) → keeps_rules j row ≡ b → b ≡ true
     go true e = refl
@@ -104,8 +104,8 @@ all_keep_lem zero row h = refl
 all_keep_lem (suc n) row h = rw (all_keep_lem n row (λ k l. h k (omega arith))) (h n (omega arith))
 
 -- a lowest word below 64 tells that one breaks the rules, and no lowest word that none does
-pub lowest-tells : (row : List ℕ) → all_keep 64 row ≡ leb 64 (lowest_bad 64 row)
-lowest-tells row = go (all_keep 64 row) refl
+pub lowest_tells : (row : List ℕ) → all_keep 64 row ≡ leb 64 (lowest_bad 64 row)
+lowest_tells row = go (all_keep 64 row) refl
   where
     go : (b : Bool) → all_keep 64 row ≡ b → b ≡ leb 64 (lowest_bad 64 row)
     go true e = rw (none-bad 64 row e)

@@ -17,7 +17,7 @@ use Rattle.fetch.specs.declared.Fetched.{Fetched}
 use Rattle.fetch.specs.declared.Fetched.TheVariants.{Instruction, Fails}
 use Rattle.fetch.specs.Fetching.{fetched}
 use Rattle.fetch.proofs.Laws.{fetched_real}
-use Rattle.text.proofs.Lengths.{text-fits, short-text-bound}
+use Rattle.text.proofs.Lengths.{text_fits, short_text_bound}
 use Rattle.listing.specs.declared.Shown.{Shown}
 use Rattle.listing.specs.declared.Shown.TheVariants.{Long, Short, Unknown, Odd}
 use Rattle.listing.specs.Listing.{shown_of, shown_at, size_of, shown_text, Lines, lines, line_of, line_at}
@@ -44,8 +44,8 @@ module _ (image : List ℕ) (a : ℕ) where
       two true e = go (leb-true _ _ e) (fetched a image) refl
       two false e = odd
 
-  shown-size : 1 ≤ size_of (shown_at image a)
-  shown-size = shown-is (λ s. 1 ≤ size_of s) (omega arith) (λ h. omega arith) (λ i len h e. (λ k. omega arith, omega arith))
+  shown_size : 1 ≤ size_of (shown_at image a)
+  shown_size = shown-is (λ s. 1 ≤ size_of s) (omega arith) (λ h. omega arith) (λ i len h e. (λ k. omega arith, omega arith))
 
   -- it lies within the image
   pub shown-within : Bytes image → a < length image → a + size_of (shown_at image a) ≤ length image
@@ -56,7 +56,7 @@ module _ (image : List ℕ) (a : ℕ) where
   pub shown-fits : Bytes image → 2 * size_of (shown_at image a) + length (shown_text (shown_at image a)) ≤ 27
   shown-fits l =
       shown-is (λ s. 2 * size_of s + length (shown_text s) ≤ 27) (omega arith) (λ h. omega arith)
-      (λ i len h e. let r = (fetched_real a image l e).in-range in (λ k. omega (arith, text-fits i r), omega (arith, short-text-bound i r)))
+      (λ i len h e. let r = (fetched_real a image l e).in_range_lem in (λ k. omega (arith, text_fits i r), omega (arith, short_text_bound i r)))
 
 -- ---- lines
 
@@ -75,15 +75,15 @@ module _ (image : List ℕ) (a : ℕ) where
       either (λ (s : Lines). length s.text ≤ 38) (leb (length image) 65536) _ _ (rw line-length (omega (arith, shown-fits image a l))) (omega arith)
 
   -- a line moves on
-  pub line-moves : a < length image → a < (line_at image a).next
+  pub line_moves : a < length image → a < (line_at image a).next
   unfolding line_at
-  line-moves h = either (λ (s : Lines). a < s.next) (leb (length image) 65536) _ _ (omega (arith, shown-size image a)) h
+  line_moves h = either (λ (s : Lines). a < s.next) (leb (length image) 65536) _ _ (omega (arith, shown_size image a)) h
 
   -- by the image's length
   pub line-none : 65536 < length image → line_at image a ≡ lines (bytes "too long\n") (length image)
   unfolding line_at
   line-none h = rw (lt-leb _ _ h)
 
-  pub line-some : length image ≤ 65536 → line_at image a ≡ lines (line_of image a (shown_at image a)) (a + size_of (shown_at image a))
+  pub line_some : length image ≤ 65536 → line_at image a ≡ lines (line_of image a (shown_at image a)) (a + size_of (shown_at image a))
   unfolding line_at
-  line-some h = rw (le-leb _ _ h)
+  line_some h = rw (le-leb _ _ h)

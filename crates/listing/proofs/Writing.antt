@@ -10,8 +10,8 @@ use Rattle.ascii.specs.Rooms.{Wrote}
 use Rattle.ascii.proofs.Rooms.{then, nothing, at_front}
 use Rattle.listing.specs.Listing.{lines, line_at, before, page_from, page_of, list_entry}
 use Rattle.octets.proofs.Bytes.{Bytes}
-use Rattle.listing.proofs.Lines.{line-fits, line-moves}
-use Rattle.listing.proofs.Pages.{page-end, page-on, following}
+use Rattle.listing.proofs.Lines.{line-fits, line_moves}
+use Rattle.listing.proofs.Pages.{page_end, page_on, following}
 
 -- so far a text, and at most `more` lines follow
 pub record Written (image : List ℕ) (from : ℕ) (room₀ room : List ℕ) (end next : ℕ) : Type 0 where
@@ -41,12 +41,12 @@ module _ (image : List ℕ) (from : ℕ) (room₀ : List ℕ) where
           record {
             text = w.text ++ (line_at image a).text;
             more = n;
-            enough = omega (arith, line-moves image a h);
+            enough = omega (arith, line_moves image a h);
             wrote = then w.wrote v;
             fits = rw length-append (omega (arith, line-fits image a l));
             rest =
                 rw (d, append_assoc w.text (line_at image a).text (following image n (length room₀ - length w.text) a).text)
-                (r ∙ ap (before (lines w.text a)) (page-on image n (length room₀ - length w.text) a h (omega arith)));
+                (r ∙ ap (before (lines w.text a)) (page_on image n (length room₀ - length w.text) a h (omega arith)));
           }
 
   pub ends : {room : List ℕ} {end next : ℕ} → (length image ≤ next) ⊎ (length room₀ < end + 38) → Written image from room₀ room end next
@@ -54,4 +54,4 @@ module _ (image : List ℕ) (from : ℕ) (room₀ : List ℕ) where
   ends {next = a} h w =
       let f = at_front w.wrote w.fits in
       let g : (length image ≤ a) ⊎ (length room₀ - length w.text < 38) = ⊎_elim (λ k. inl k) (λ k. inr (omega (arith, f.1))) h in
-      rw (w.rest, page-end image w.more (length room₀ - length w.text) a g, append-nil w.text, f.0, f.1)
+      rw (w.rest, page_end image w.more (length room₀ - length w.text) a g, append-nil w.text, f.0, f.1)

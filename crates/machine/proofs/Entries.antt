@@ -24,12 +24,12 @@ run_ends a b w p = go (checked w)
     go Passed = let h = eqb-false _ _ p in rw (ran-add, retired-add, ran_stopped b (ran a w) h, retired_stopped b (ran a w) h, add-zero)
     go (Refused r) = refl
 
-pub one-step : (w : World)
+pub one_step : (w : World)
     → ((step_entry w).answer.check ≡ (run_entry 1 w).answer.check)
     × ((step_entry w).answer.state ≡ (run_entry 1 w).answer.state)
     × ((step_entry w).lent ≡ (run_entry 1 w).lent)
 unfolding decided ran
-one-step w = go (checked w)
+one_step w = go (checked w)
   where
     go : (c : Check)
         → ((decided c (step_given w) no_step w.board).answer.check ≡ (decided c (run_given 1 w) no_run w.board).answer.check)

@@ -50,8 +50,8 @@ get_d_take_0 zero l h = absurd (omega arith)
 get_d_take_0 (suc n) [] h = refl
 get_d_take_0 (suc n) (x ∷ l) h = refl
 
-in-front : (f : ℕ) (l : List ℕ) → minus f l < numeral f l → Front f l
-in-front f l h =
+in_front : (f : ℕ) (l : List ℕ) → minus f l < numeral f l → Front f l
+in_front f l h =
     record {
       sign = rw (get_d_take_0 (numeral f l) l (omega arith));
       rest = rest;
@@ -92,8 +92,8 @@ unfolding Near
 near_same t v n (inl e) h l = e
 near_same t v n (inr g) h l = absurd (omega (arith, g.0))
 
-minus-most : (f : ℕ) (l : List ℕ) → minus f l ≤ 1
-minus-most f l = go (eqb f 4 && eqb (get_or l 0 0) 45)
+minus_most : (f : ℕ) (l : List ℕ) → minus f l ≤ 1
+minus_most f l = go (eqb f 4 && eqb (get_or l 0 0) 45)
   where
     go : (s : Bool) → cond s 1 0 ≤ 1
     go true = omega arith
@@ -103,8 +103,8 @@ near_zero : (l : List ℕ) → Near (tally 0 l) (read 0 (take (run l) l))
 unfolding Near
 near_zero l = near 0 0 l (inl refl)
 
-pub number-held : (f at : ℕ) (l : List ℕ) → let m = minus f l in held at m (run (drop m l)) (tally 0 (drop m l)) (get_or (drop m l) 0 0) ≡ number_at f at l
-number-held f at l = go (ltb m (numeral f l)) refl
+pub number_held : (f at : ℕ) (l : List ℕ) → let m = minus f l in held at m (run (drop m l)) (tally 0 (drop m l)) (get_or (drop m l) 0 0) ≡ number_at f at l
+number_held f at l = go (ltb m (numeral f l)) refl
   where
     m : ℕ
     m = minus f l
@@ -132,7 +132,7 @@ number-held f at l = go (ltb m (numeral f l)) refl
     go true e = λ i. num true (sym same i) (both i)
       where
         F : Front f l
-        F = in-front f l (ltb-true m (numeral f l) e)
+        F = in_front f l (ltb-true m (numeral f l) e)
 
         size : v ≡ read 0 (take (run (drop m l)) (drop m l))
         size = ap (λ (k : ℕ). read 0 (drop k (front f l))) F.sign ∙ ap (read 0) F.rest
@@ -141,7 +141,7 @@ number-held f at l = go (ltb m (numeral f l)) refl
         close = subst (Near t) (sym size) (near_zero (drop m l))
 
         low : 2 ^ 31 + m ≤ 2 ^ 32
-        low = omega (arith, minus-most f l)
+        low = omega (arith, minus_most f l)
 
         plain-same : plain f (front f l) ≡ tidy b (numeral f l)
         plain-same =
@@ -184,7 +184,7 @@ module _ (f from : ℕ) (s : List ℕ) (sign : ℕ) (d : Digits) (es : sign ≡ 
       let r : d.end - (from + sign) ≡ run (drop (from + sign) s) = omega (arith, end_is) in
       let b : get_or s (from + sign) 0 ≡ get_or (drop (from + sign) s) 0 0 = sym (get_or-drop (from + sign) s 0 0 ∙ ap (λ (k : ℕ). get_or s k 0) (add-zero (from + sign))) in
       let e : drop (from + sign) s ≡ drop (minus f (drop from s)) (drop from s) = sym (drop-drop sign from s) ∙ ap (λ (k : ℕ). drop k (drop from s)) es in
-      (λ i. held from (es i) (r i) (value-is i) (b i)) ∙ ap (λ (l : List ℕ). held from (minus f (drop from s)) (run l) (tally 0 l) (get_or l 0 0)) e ∙ number-held f from (drop from s)
+      (λ i. held from (es i) (r i) (value-is i) (b i)) ∙ ap (λ (l : List ℕ). held from (minus f (drop from s)) (run l) (tally 0 l) (get_or l 0 0)) e ∙ number_held f from (drop from s)
 
   pub none : d.end ≡ from + sign → num d.end false false 0 ≡ number_at f from (drop from s)
   none e = (λ i. num (k i) (sym any i) (sym any i && (tidy b (sign + r) && ltb d.value (2 ^ 31 + sign))) (cond (sym any i && (tidy b (sign + r) && ltb d.value (2 ^ 31 + sign))) (cond (eqb sign 1) (2 ^ 32 - d.value) d.value) 0)) ∙ whole

@@ -7,7 +7,7 @@ use mathlib.Core.Path.{◌≡◌, refl, sym, ap}
 use mathlib.Core.Logic.{◌⊎◌, inl, inr}
 use mathlib.Core.List.{List, [], ◌∷◌, ◌++◌, append_assoc}
 use Rattle.word.specs.Bounds.{AllBelow}
-use Rattle.word.proofs.Bounds.{below-append, below-take, below-drop, below_get}
+use Rattle.word.proofs.Bounds.{below_append, below_take, below_drop, below_get}
 use lib.ListN.{length, take, drop, get_or, set, length-append, length-take, length-drop, take-append-drop}
 use lib.Seq.{take-append-le, drop-append-le, take-add, drop-drop, length-take-le, take_at, drop_at, drop-cons, set_split, append_snoc, get_or-drop}
 use lib.Pow.{pow_pos, pow-add, shr-shr, field, mod-mod-pow, mod-pow-add}
@@ -18,29 +18,29 @@ eight n = omega arith
 
 -- ---- the bytes of a number, and the number of bytes
 
-pub length-le : (n v : ℕ) → length (little_endian n v) ≡ n
+pub length_le : (n v : ℕ) → length (little_endian n v) ≡ n
 unfolding little_endian
-length-le zero v = refl
-length-le (suc n) v = ap suc (length-le n (v / 256))
+length_le zero v = refl
+length_le (suc n) v = ap suc (length_le n (v / 256))
 
-le-add : (n k v : ℕ) → little_endian (n + k) v ≡ little_endian n v ++ little_endian k (v / 2 ^ (8 * n))
+le_add : (n k v : ℕ) → little_endian (n + k) v ≡ little_endian n v ++ little_endian k (v / 2 ^ (8 * n))
 unfolding little_endian
-le-add zero k v = rw (zero-add, div-one)
-le-add (suc n) k v =
+le_add zero k v = rw (zero-add, div-one)
+le_add (suc n) k v =
     let e : 8 * suc n ≡ 8 + 8 * n = omega arith in
-    rw (suc-add, e, ← (shr-shr v 8 (8 * n)), le-add n k (v / 256))
+    rw (suc-add, e, ← (shr-shr v 8 (8 * n)), le_add n k (v / 256))
 
 le_mod : (n v : ℕ) → little_endian n (v % 2 ^ (8 * n)) ≡ little_endian n v
 unfolding little_endian
 le_mod zero v = refl
 le_mod (suc n) v = rw (eight n, mod-mod-pow v (8 * n) 8, field v (8 * n) 8, le_mod n (v / 256))
 
-of-append : (s t : List ℕ) → of_little_endian (s ++ t) ≡ of_little_endian s + of_little_endian t * 2 ^ (8 * length s)
+of_append : (s t : List ℕ) → of_little_endian (s ++ t) ≡ of_little_endian s + of_little_endian t * 2 ^ (8 * length s)
 unfolding of_little_endian
-of-append [] t = omega arith
-of-append (b ∷ s) t =
+of_append [] t = omega arith
+of_append (b ∷ s) t =
     rw (eight (length s), pow-add 2 (8 * length s) 8, ← (mul_assoc (of_little_endian t) (2 ^ (8 * length s)) (2 ^ 8)))
-    (omega (arith, of-append s t))
+    (omega (arith, of_append s t))
 
 pub of_le : (n v : ℕ) → of_little_endian (little_endian n v) ≡ v % 2 ^ (8 * n)
 unfolding little_endian of_little_endian
@@ -57,23 +57,23 @@ load_one a m h = let l : a < length m = omega arith in rw (drop-cons m a 0 l) (o
 pub load-among : (n a v : ℕ) (p q : List ℕ) → length p ≡ a → load n a (p ++ little_endian n v ++ q) ≡ v % 2 ^ (8 * n)
 unfolding load
 load-among n a v p q h =
-    rw (append_assoc p (little_endian n v) q, drop_at p (little_endian n v ++ q) a h, take_at (little_endian n v) q n (length-le n v), of_le)
+    rw (append_assoc p (little_endian n v) q, drop_at p (little_endian n v ++ q) a h, take_at (little_endian n v) q n (length_le n v), of_le)
 
 pub load-add : (n k a : ℕ) (m : List ℕ) → a + n ≤ length m → load (n + k) a m ≡ load n a m + load k (a + n) m * 2 ^ (8 * n)
 unfolding load
 load-add n k a m h =
     let l : length (take n (drop a m)) ≡ n = length-take-le n (drop a m) (rw length-drop (omega arith)) in
-    rw (take-add, drop-drop, of-append, l)
+    rw (take-add, drop-drop, of_append, l)
 
 -- ---- stores
 
 pub length-store : (n a v : ℕ) (m : List ℕ) → a + n ≤ length m → length (store n a v m) ≡ length m
 unfolding store
-length-store n a v m h = simp (length-append, length-take, length-drop, length-le) (omega arith)
+length-store n a v m h = simp (length-append, length-take, length-drop, length_le) (omega arith)
 
-pub store-one : (a v : ℕ) (m : List ℕ) → a + 1 ≤ length m → v < 256 → set m a v ≡ store 1 a v m
+pub store_one : (a v : ℕ) (m : List ℕ) → a + 1 ≤ length m → v < 256 → set m a v ≡ store 1 a v m
 unfolding store little_endian
-store-one a v m h f =
+store_one a v m h f =
     let l : a < length m = omega arith in
     let e : v % 256 ≡ v = omega arith in
     rw (set_split m a v l, e, add-one) (sym (append_snoc (take a m) v (drop (suc a) m)))
@@ -83,14 +83,14 @@ pub store-add : (n k a v : ℕ) (m : List ℕ) → a + n ≤ length m
 unfolding store
 store-add n k a v m h =
     let p : List ℕ = take a m ++ little_endian n v in
-    let l : length p ≡ a + n = simp (length-append, length-take, length-le) (omega arith) in
+    let l : length p ≡ a + n = simp (length-append, length-take, length_le) (omega arith) in
     rw (
       le_mod n v,
       ← (drop-drop k (a + n) (p ++ drop (a + n) m)),
       take_at p (drop (a + n) m) (a + n) l,
       drop_at p (drop (a + n) m) (a + n) l,
       drop-drop,
-      le-add,
+      le_add,
     )
     (simp (append_assoc, add_assoc))
 
@@ -116,7 +116,7 @@ load-store-other n a v k b m (inl h) l =
     rw (append_assoc (take a m) (little_endian n v) (drop (a + n) m), load-front k b (take a m) (little_endian n v ++ drop (a + n) m) s, e)
 load-store-other n a v k b m (inr h) l =
     let p : List ℕ = take a m ++ little_endian n v in
-    let s : length p ≡ a + n = simp (length-append, length-take, length-le) (omega arith) in
+    let s : length p ≡ a + n = simp (length-append, length-take, length_le) (omega arith) in
     let d : a + n + (b - (a + n)) ≡ b = omega arith in
     rw (← d, ← (drop-drop (b - (a + n)) (a + n) (p ++ drop (a + n) m)), drop_at p (drop (a + n) m) (a + n) s, drop-drop)
 
@@ -137,12 +137,12 @@ of_lt (suc n) (v ∷ s) h =
     let e : 8 * suc n ≡ 8 + 8 * n = omega arith in
     rw (e, pow-add 2 8 (8 * n)) (omega (arith, of_lt n s (λ k. h (suc k)), h 0))
 
-pub loaded-lt : (n a : ℕ) (m : List ℕ) → Bytes m → load n a m < 2 ^ (8 * n)
+pub loaded_lt : (n a : ℕ) (m : List ℕ) → Bytes m → load n a m < 2 ^ (8 * n)
 unfolding load
-loaded-lt n a m h = of_lt n (drop a m) (λ k. rw get_or-drop (h (a + k)))
+loaded_lt n a m h = of_lt n (drop a m) (λ k. rw get_or-drop (h (a + k)))
 
 pub load_lt : (n a : ℕ) (m : List ℕ) → AllBelow (2 ^ 8) m → load n a m < 2 ^ (8 * n)
-load_lt n a m h = loaded-lt n a m (all-bytes m h)
+load_lt n a m h = loaded_lt n a m (all-bytes m h)
 
 -- ---- bytes stay bytes
 
@@ -154,6 +154,6 @@ le_below (suc n) v = (omega arith, le_below n (v / 256))
 pub store_below : (n a v : ℕ) (m : List ℕ) → AllBelow (2 ^ 8) m → AllBelow (2 ^ 8) (store n a v m)
 unfolding store
 store_below n a v m h =
-    below-append (2 ^ 8) (take a m ++ little_endian n v) (drop (a + n) m)
-    (below-append (2 ^ 8) (take a m) (little_endian n v) (below-take (2 ^ 8) a m h) (le_below n v))
-    (below-drop (2 ^ 8) (a + n) m h)
+    below_append (2 ^ 8) (take a m ++ little_endian n v) (drop (a + n) m)
+    (below_append (2 ^ 8) (take a m) (little_endian n v) (below_take (2 ^ 8) a m h) (le_below n v))
+    (below_drop (2 ^ 8) (a + n) m h)

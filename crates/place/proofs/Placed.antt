@@ -31,10 +31,10 @@ in_window b s a e h =
     (leb-true s a t.0, ltb-true a e t.1)
 
 -- an aligned access that memory does not hold, as `place_of` tests it
-pub beyond-memory : (n a size m : ℕ) (x y w : Bool) → x ≡ eqb (a % n) 0 → x ≡ true → m ≡ n → size < a + m → y ≡ eqb n 4
+pub beyond_memory : (n a size m : ℕ) (x y w : Bool) → x ≡ eqb (a % n) 0 → x ≡ true → m ≡ n → size < a + m → y ≡ eqb n 4
     → (y && (leb window_start a && ltb a window_end)) ≡ w → cond w (Fuse (word a)) Outside ≡ placed n a size
 unfolding placed
-beyond-memory n a size m x y w aligned t counted l words e =
+beyond_memory n a size m x y w aligned t counted l words e =
     rw (← aligned, t, lt-leb (a + n) size (omega arith), ← words, e)
 
 -- ---- back from the place
@@ -42,11 +42,11 @@ beyond-memory n a size m x y w aligned t counted l words e =
 abbrev map : Bool → Bool → Bool → ℕ → ℕ → Place
 map aligned inside windowed a k = cond aligned (cond inside (Memory a) (cond windowed (Fuse k) Outside)) Misaligned
 
-map-memory : (x y z : Bool) (a k i : ℕ) → map x y z a k ≡ Memory i → (y ≡ true) × (i ≡ a)
-map-memory true true z a k i e = (refl, cc)
-map-memory true false true a k i e = (cc, cc)
-map-memory true false false a k i e = (cc, cc)
-map-memory false y z a k i e = (cc, cc)
+map_memory : (x y z : Bool) (a k i : ℕ) → map x y z a k ≡ Memory i → (y ≡ true) × (i ≡ a)
+map_memory true true z a k i e = (refl, cc)
+map_memory true false true a k i e = (cc, cc)
+map_memory true false false a k i e = (cc, cc)
+map_memory false y z a k i e = (cc, cc)
 
 map_fuse : (x y z : Bool) (a k i : ℕ) → map x y z a k ≡ Fuse i → (z ≡ true) × (i ≡ k)
 map_fuse true true z a k i e = (cc, cc)
@@ -54,10 +54,10 @@ map_fuse true false true a k i e = (refl, cc)
 map_fuse true false false a k i e = (cc, cc)
 map_fuse false y z a k i e = (cc, cc)
 
-pub placed-memory : (n a size i : ℕ) → placed n a size ≡ Memory i → (i ≡ a) × (i + n ≤ size)
+pub placed_memory : (n a size i : ℕ) → placed n a size ≡ Memory i → (i ≡ a) × (i + n ≤ size)
 unfolding placed
-placed-memory n a size i e =
-    let p = map-memory (eqb (a % n) 0) (leb (a + n) size) (window n a) a (word a) i e in
+placed_memory n a size i e =
+    let p = map_memory (eqb (a % n) 0) (leb (a + n) size) (window n a) a (word a) i e in
     let l : a + n ≤ size = leb-true _ _ p.0 in (p.1, omega arith)
 
 pub placed_fuse : (n a size k : ℕ) → placed n a size ≡ Fuse k → k < 64

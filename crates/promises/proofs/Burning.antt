@@ -9,10 +9,10 @@ use lib.Dec.{eqb}
 use Rattle.answers.specs.Outcomes.{outcome, decided}
 use Rattle.answers.specs.declared.Check.{Check}
 use Rattle.answers.specs.declared.Check.TheVariants.{Passed, Refused}
-use Rattle.word.proofs.Bools.{flag-le}
+use Rattle.word.proofs.Bools.{flag_le}
 use Rattle.word.specs.Bits.{low}
 use Rattle.fuses.specs.Row.{mark_at, word_stored, Row}
-use Rattle.fuses.proofs.Burning.{RowStep, stays, burning, Leads, at_rest, join, by-step, step-leaves, row-not-zero}
+use Rattle.fuses.proofs.Burning.{RowStep, stays, burning, Leads, at_rest, join, by_step, step_leaves, row-not-zero}
 use Rattle.boards.specs.Boards.{Board}
 use Rattle.answers.specs.Stops.{cause}
 use Rattle.answers.specs.declared.Stop.TheVariants.{AlreadyBurnt}
@@ -21,7 +21,7 @@ use Rattle.access.specs.declared.Effect.TheVariants.{Halt}
 use Rattle.access.specs.Accesses.{Done, on_to, stored_in_row, stored_to}
 use Rattle.execute.specs.Execution.{performed}
 use Rattle.execute.specs.declared.Act.{Act}
-use Rattle.execute.proofs.Acts.{Comes, sets, loads, into-memory, into-row, zero-into-row, stops}
+use Rattle.execute.proofs.Acts.{Comes, sets, loads, into_memory, into_row, zero_into_row, stops}
 use Rattle.engine.specs.Steps.{World, checked, asked, step_done, applied, stepped, ran, goes_on}
 use Rattle.engine.proofs.Walk.{walk}
 use Rattle.machine.specs.Entries.{run_given, no_run, run_entry}
@@ -29,59 +29,59 @@ use Rattle.promises.specs.Burning.{stores_there, burns, stores_in, turns_in, Sta
 
 -- ---- one step
 
-row-comes : {own : ℕ} {b : Board} {a : Act} {d : Done} → Comes own b a d → RowStep b.row (goes_on d.answer && stores_there a b) d.lent.row
-row-comes (sets rd v pc) = stays
-row-comes (loads o rd a pc v h) = stays
-row-comes (into-memory o v a pc i e h) = rw e stays
-row-comes (into-row o v a pc k e h mine z ne) = rw (e, ne_eqb (low 32 v) 0 ne) (burning k v h z ne)
-row-comes (zero-into-row o v a pc k e z) = rw (e, eq-eqb (low 32 v) 0 z) stays
-row-comes (stops a why by) = stays
+row_comes : {own : ℕ} {b : Board} {a : Act} {d : Done} → Comes own b a d → RowStep b.row (goes_on d.answer && stores_there a b) d.lent.row
+row_comes (sets rd v pc) = stays
+row_comes (loads o rd a pc v h) = stays
+row_comes (into_memory o v a pc i e h) = rw e stays
+row_comes (into_row o v a pc k e h mine z ne) = rw (e, ne_eqb (low 32 v) 0 ne) (burning k v h z ne)
+row_comes (zero_into_row o v a pc k e z) = rw (e, eq-eqb (low 32 v) 0 z) stays
+row_comes (stops a why by) = stays
 
 row_step : (w : World) → RowStep w.board.row (burns w) (stepped w).board.row
-row_step w = walk w (λ c v. RowStep w.board.row (c && stores_there (asked w) w.board) v.board.row) (λ e. stays) (λ e d c. row-comes c)
+row_step w = walk w (λ c v. RowStep w.board.row (c && stores_there (asked w) w.board) v.board.row) (λ e. stays) (λ e d c. row_comes c)
 
 -- ---- steps, runs, starts
 
-by-steps : (k n : ℕ) (w : World) → Row w.board.row → Leads k w.board.row (ran n w).board.row (stores_in n w) (turns_in k n w)
+by_steps : (k n : ℕ) (w : World) → Row w.board.row → Leads k w.board.row (ran n w).board.row (stores_in n w) (turns_in k n w)
 unfolding ran stores_in turns_in
-by-steps k zero w r = at_rest k w.board.row r
-by-steps k (suc n) w r = let a = by-step k r (row_step w) in join a (by-steps k n (stepped w) a.row)
+by_steps k zero w r = at_rest k w.board.row r
+by_steps k (suc n) w r = let a = by_step k r (row_step w) in join a (by_steps k n (stepped w) a.row)
 
 -- a run, which a refusal keeps from changing the row
-by-run : (k : ℕ) (c : Check) (n : ℕ) (w : World) → Row w.board.row
+by_run : (k : ℕ) (c : Check) (n : ℕ) (w : World) → Row w.board.row
     → Leads k w.board.row (decided c (run_given n w) no_run w.board).lent.row (if_run c (stores_in n w)) (if_run c (turns_in k n w))
 unfolding decided
-by-run k Passed n w r = by-steps k n w r
-by-run k (Refused why) n w r = at_rest k w.board.row r
+by_run k Passed n w r = by_steps k n w r
+by_run k (Refused why) n w r = at_rest k w.board.row r
 
-by-starts : (k : ℕ) (es : List Start) (f : List ℕ) → Row f → Leads k f (row_after es f) (stores_over es f) (turns_over k es f)
+by_starts : (k : ℕ) (es : List Start) (f : List ℕ) → Row f → Leads k f (row_after es f) (stores_over es f) (turns_over k es f)
 unfolding row_after stores_over turns_over
-by-starts k [] f r = at_rest k f r
-by-starts k (e ∷ es) f r =
-    let a = by-run k (checked (begun e f)) e.budget (begun e f) r in
-    join a (by-starts k es (run_entry e.budget (begun e f)).lent.row a.row)
+by_starts k [] f r = at_rest k f r
+by_starts k (e ∷ es) f r =
+    let a = by_run k (checked (begun e f)) e.budget (begun e f) r in
+    join a (by_starts k es (run_entry e.budget (begun e f)).lent.row a.row)
 
 -- ---- the promises
 
-pub stays-a-row : StaysARow
-stays-a-row es f r =
-    let g = (by-starts 0 es f r).row in
+pub stays_a_row : StaysARow
+stays_a_row es f r =
+    let g = (by_starts 0 es f r).row in
     (g, rw (eq-eqb _ 512 g.0, g.1))
 
-pub burnt-once : BurntOnce
-burnt-once es f k r l = rw (by-starts k es f r).mark (flag-le (eqb (mark_at k (row_after es f)) 1))
+pub burnt_once : BurntOnce
+burnt_once es f k r l = rw (by_starts k es f r).mark (flag_le (eqb (mark_at k (row_after es f)) 1))
 
-pub keeps-value : KeepsValue
-keeps-value es f k r l e = (by-starts k es f r).keeps e
+pub keeps_value : KeepsValue
+keeps_value es f k r l e = (by_starts k es f r).keeps e
 
-pub keeps-value-in-run : KeepsValueInRun
-keeps-value-in-run n w k r l e = (by-steps k n w r).keeps e
+pub keeps_value_in_run : KeepsValueInRun
+keeps_value_in_run n w k r l e = (by_steps k n w r).keeps e
 
-pub burnt-not-zero : BurntNotZero
-burnt-not-zero es f k r l = row-not-zero k (row_after es f) (by-starts 0 es f r).row l
+pub burnt_not_zero : BurntNotZero
+burnt_not_zero es f k r l = row-not-zero k (row_after es f) (by_starts 0 es f r).row l
 
 pub newly_burnt : NewlyBurnt
-newly_burnt es f r = (by-starts 0 es f r).words
+newly_burnt es f r = (by_starts 0 es f r).words
 
 -- ---- a store to a word
 
@@ -96,9 +96,9 @@ zero_is_no_pulse w k v s z m =
     let d : step_done w ≡ outcome (on_to s.next) w.board = done s ∙ rw (s.mine, eq-eqb _ 0 m, eq-eqb _ 0 z) in
     rw (s.goes, d) (refl, refl)
 
-pub burnt-stops : BurntStops
+pub burnt_stops : BurntStops
 unfolding stored_to stored_in_row word_stored stepped applied
-burnt-stops w k v s m =
+burnt_stops w k v s m =
     let d : step_done w ≡ outcome (Halt (cause AlreadyBurnt s.a)) w.board = done s ∙ rw (s.mine, m) in
     rw (s.goes, d) (refl, refl, refl)
 
@@ -106,4 +106,4 @@ pub clearing_burns_nothing : ClearingBurnsNothing
 unfolding ran stores_in
 clearing_burns_nothing zero w e = refl
 clearing_burns_nothing (suc n) w e =
-    clearing_burns_nothing n (stepped w) (omega arith) ∙ step-leaves (row_step w) (omega arith)
+    clearing_burns_nothing n (stepped w) (omega arith) ∙ step_leaves (row_step w) (omega arith)

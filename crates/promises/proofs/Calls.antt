@@ -15,8 +15,8 @@ use Rattle.answers.specs.Outcomes.{Outcome, outcome, decided}
 use Rattle.answers.specs.Refusals.{number_of, word_of}
 use Rattle.answers.specs.Replies.{told, placed, called_telling}
 use Rattle.answers.proofs.Numbers.{refusal-numbered}
-use Rattle.answers.proofs.Order.{RefusedBy, Says, apart, same_number, same-value, then-row}
-use Rattle.answers.proofs.Checks.{both-passed}
+use Rattle.answers.proofs.Order.{RefusedBy, Says, apart, same_number, same-value, then_row}
+use Rattle.answers.proofs.Checks.{both_passed}
 use Rattle.answers.specs.declared.Refusal.{Refusal}
 use Rattle.answers.specs.declared.Refusal.TheVariants as R
 use Rattle.answers.specs.declared.Check.{Check}
@@ -25,15 +25,15 @@ use Rattle.word.specs.Bounds.{AllBelow}
 use Rattle.octets.specs.Bytes.{load}
 use Rattle.state.specs.declared.State.{State}
 use Rattle.state.specs.States.{well_formed, state_checked}
-use Rattle.state.proofs.Laws.{malformed, form-passes, form-passed}
+use Rattle.state.proofs.Laws.{malformed, form_passes, form_passed}
 use Rattle.boards.specs.Boards.{Board, start_checked}
 use Rattle.engine.specs.Steps.{World, masked, ran, retired}
 use Rattle.machine.specs.declared.Ran.{Ran}
 use Rattle.machine.specs.Entries.{run_given, no_run, of_ran}
 use Rattle.records.specs.Records.{record_of, state_of, record_checked}
-use Rattle.records.proofs.Records.{write-back}
+use Rattle.records.proofs.Records.{write_back}
 use Rattle.slots.specs.Slots.{slot_there, slot_at, slot_set, read_checked, of_write}
-use Rattle.slots.proofs.Slots.{there-fits, no_slot, slot-set-at, take-before, drop-after, one-slot-there, one-slot-at}
+use Rattle.slots.proofs.Slots.{there-fits, no_slot, slot_set_at, take-before, drop-after, one_slot_there, one_slot_at}
 use Rattle.resume.specs.declared.Resumed.{Resumed}
 use Rattle.resume.specs.declared.Resumed.TheVariants as A
 use Rattle.resume.specs.Resuming.{Bench, bench_on, bench_left, resume_checked, resume_given, of_resumed, word_resumed}
@@ -41,7 +41,7 @@ use Rattle.c_slots.specs.Slots.{lent_checked}
 use Rattle.run_calls.specs.Runs.{resume_call}
 use Rattle.promises.specs.Refusals.{NoSlot, RecordMalformed, LowestBroken, TellsLowest, start_rows, record_rows}
 use Rattle.promises.specs.Calls.{TellsIn, WordTold, Returns, CallsRefuse, WriteCallRefuses, lent_world, RunCallIsRun}
-use Rattle.promises.proofs.Refusals.{start-rows, record-row, resume_rows_lem, start-tells, quiet_read}
+use Rattle.promises.proofs.Refusals.{start-rows, record_row, resume_rows_lem, start_tells, quiet_read}
 
 -- ---- the word's place
 
@@ -66,10 +66,10 @@ module _ (b k : ℕ) (h : Bench) (place word : ℕ) where
 
   told_by_resume : TellsIn h.board (resume_call b k h place word).answer word (resume_call b k h place word).lent.0.1
       (((resume_call b k h place word).lent.0.0 ≡ place) × ((resume_call b k h place word).lent.1 ≡ h))
-  told_by_resume = resume_tells (resume_checked k h) (start-tells h.board h.masks (read_checked k h.slots) (quiet_read k h.slots))
+  told_by_resume = resume_tells (resume_checked k h) (start_tells h.board h.masks (read_checked k h.slots) (quiet_read k h.slots))
 
-pub word-told : WordTold
-word-told = (
+pub word_told_lem : WordTold
+word_told_lem = (
   told_by_resume,
   λ b h place word. told_by_resume b 0 h place word,
   λ h word. ⊎_elim (λ t. inl (t.0, t.1, t.2.1)) inr (told_by_resume 1 0 h 0 word),
@@ -95,11 +95,11 @@ module _ {A B C : Type 0} (read : A → Answer C) (refusal : Refusal → A) (rea
   leaves (Refused r) o before place e f = (ap (λ a. (told a place).lent) (reads r), refl)
 
 -- one record is a slot that is there
-one-read : (r : List ℕ) → length r ≡ 144 → read_checked 0 r ≡ record_checked r
-one-read r l = rw (one-slot-there r l, one-slot-at r l)
+one_read : (r : List ℕ) → length r ≡ 144 → read_checked 0 r ≡ record_checked r
+one_read r l = rw (one_slot_there r l, one_slot_at r l)
 
 lent_rows : (h : Bench) → length h.slots ≡ 144 → Says (resume_checked 0 h) (start_rows h.board h.masks (record_rows h.slots))
-lent_rows h l = start-rows h.board h.masks (read_checked 0 h.slots) (rw (one-read h.slots l) (record-row h.slots))
+lent_rows h l = start-rows h.board h.masks (read_checked 0 h.slots) (rw (one_read h.slots l) (record_row h.slots))
 
 pub calls_refuse : CallsRefuse
 calls_refuse = (
@@ -118,8 +118,8 @@ calls_refuse = (
 )
 
 module _ (state : List ℕ) (k : ℕ) (slots : List ℕ) (l : length state ≡ 144) where
-  write-call-rows : Says (lent_checked state k slots) (refusal 4 (NoSlot k slots) (record_rows state))
-  write-call-rows = then-row (slot_there k slots) R.Slot (read_checked 0 state) (no_slot k slots) (rw (one-read state l) (record-row state))
+  write_call_rows : Says (lent_checked state k slots) (refusal 4 (NoSlot k slots) (record_rows state))
+  write_call_rows = then_row (slot_there k slots) R.Slot (read_checked 0 state) (no_slot k slots) (rw (one_read state l) (record_row state))
 
   -- these slots have the record in slot k, and the others as they were
   abbrev Held : List ℕ → Type 0
@@ -128,32 +128,32 @@ module _ (state : List ℕ) (k : ℕ) (slots : List ℕ) (l : length state ≡ 1
   abbrev wrote : Outcome Check (List ℕ)
   wrote = outcome Passed (slot_set k (record_of (state_of (slot_at 0 state))) slots)
 
-  write-call-holds : AllBelow (2 ^ 8) state → (c : Check) → lent_checked state k slots ≡ c → (told (of_write (decided c wrote Refused slots).answer) tt).answer ≡ 0
+  write_call_holds : AllBelow (2 ^ 8) state → (c : Check) → lent_checked state k slots ≡ c → (told (of_write (decided c wrote Refused slots).answer) tt).answer ≡ 0
       → Held (decided c wrote Refused slots).lent
   unfolding decided
-  write-call-holds bytes Passed e z =
-      let t = both-passed (slot_there k slots) R.Slot _ e in
+  write_call_holds bytes Passed e z =
+      let t = both_passed (slot_there k slots) R.Slot _ e in
       let fits = there-fits k slots t.0 in
-      let q = form-passed (eqb (load 3 137 state) 0) (state_of state) (sym (one-read state l) ∙ t.1) in
-      let same : record_of (state_of (slot_at 0 state)) ≡ state = ap (λ r. record_of (state_of r)) (one-slot-at state l) ∙ write-back state l bytes (eqb-true _ _ q.0) in
-      subst (λ r. Held (slot_set k r slots)) (sym same) (take-before k state slots l fits, slot-set-at k state slots l fits, drop-after k state slots l fits)
-  write-call-holds bytes (Refused r) e z = absurd (omega (arith, z, (refusal-numbered r).1))
+      let q = form_passed (eqb (load 3 137 state) 0) (state_of state) (sym (one_read state l) ∙ t.1) in
+      let same : record_of (state_of (slot_at 0 state)) ≡ state = ap (λ r. record_of (state_of r)) (one_slot_at state l) ∙ write_back state l bytes (eqb-true _ _ q.0) in
+      subst (λ r. Held (slot_set k r slots)) (sym same) (take-before k state slots l fits, slot_set_at k state slots l fits, drop-after k state slots l fits)
+  write_call_holds bytes (Refused r) e z = absurd (omega (arith, z, (refusal-numbered r).1))
 
 pub write_call_refuses : WriteCallRefuses
 write_call_refuses state k slots l bytes = (
-  returns of_write Refused (λ r. refl) (lent_checked state k slots) (wrote state k slots l) slots tt refl (write-call-rows state k slots l),
+  returns of_write Refused (λ r. refl) (lent_checked state k slots) (wrote state k slots l) slots tt refl (write_call_rows state k slots l),
   λ f. (leaves of_write Refused (λ r. refl) (lent_checked state k slots) (wrote state k slots l) slots tt refl f).1,
-  write-call-holds state k slots l bytes (lent_checked state k slots) refl,
+  write_call_holds state k slots l bytes (lent_checked state k slots) refl,
 )
 
 -- ---- the call and the entry
 
 -- a record that is not malformed passes, and so does its state
-record-passes : (r : List ℕ) → (RecordMalformed r → ⊥) → (record_checked r ≡ Passed) × (state_checked (state_of r) ≡ Passed)
-record-passes r f =
+record_passes : (r : List ℕ) → (RecordMalformed r → ⊥) → (record_checked r ≡ Passed) × (state_checked (state_of r) ≡ Passed)
+record_passes r f =
     let zeros = rest (eqb (load 3 137 r) 0) refl in
     let formed = form (well_formed (state_of r)) refl in
-    (form-passes (eqb (load 3 137 r) 0) (state_of r) zeros formed, form-passes true (state_of r) refl formed)
+    (form_passes (eqb (load 3 137 r) 0) (state_of r) zeros formed, form_passes true (state_of r) refl formed)
   where
     rest : (b : Bool) → eqb (load 3 137 r) 0 ≡ b → b ≡ true
     rest true e = refl
@@ -182,14 +182,14 @@ module _ (b : ℕ) (h : Bench) (place word : ℕ) (l : length h.slots ≡ 144) w
   both_run Passed =
       let w : World = lent_world h in (
         λ s n e.
-            ap (λ r. outcome 0 ((retired b (masked h.masks (state_of r) h.board), word), bench_left 0 (ran b (masked h.masks (state_of r) h.board)) h)) (one-slot-at h.slots l)
+            ap (λ r. outcome 0 ((retired b (masked h.masks (state_of r) h.board), word), bench_left 0 (ran b (masked h.masks (state_of r) h.board)) h)) (one_slot_at h.slots l)
             ∙ ap (λ r. outcome 0 ((retired b w, word), bench_on h (ran b w).board r)) (one_set (record_of (ran b w).st) h.slots l)
             ∙ ap (λ (p : State × ℕ). outcome 0 ((p.1, word), bench_on h (ran b w).board (record_of p.0))) (same-value e),
         λ n e. absurd (apart e),
       )
   both_run (Refused r) = (λ s n e. absurd (apart (sym e)), λ n e. same_number e)
 
-pub run-call-is-run : RunCallIsRun
-run-call-is-run b h place word l f =
-    let p = record-passes h.slots f in
-    rw (one-read h.slots l ∙ p.0, p.1) (both_run b h place word l (start_checked h.board h.masks Passed))
+pub run_call_is_run : RunCallIsRun
+run_call_is_run b h place word l f =
+    let p = record_passes h.slots f in
+    rw (one_read h.slots l ∙ p.0, p.1) (both_run b h place word l (start_checked h.board h.masks Passed))

@@ -11,7 +11,7 @@ use borrow.Author.Tests.{eqb-true, eqb-false}
 use Rattle.answers.specs.Answer.{given}
 use Rattle.answers.specs.Checks.{unless}
 use Rattle.answers.specs.Outcomes.{Outcome, outcome, decided}
-use Rattle.answers.proofs.Checks.{both-passed}
+use Rattle.answers.proofs.Checks.{both_passed}
 use Rattle.answers.proofs.Order.{apart}
 use Rattle.answers.specs.declared.Refusal.{Refusal}
 use Rattle.answers.specs.declared.Refusal.TheVariants as R
@@ -22,9 +22,9 @@ use Rattle.word.specs.Bits.{flag}
 use Rattle.octets.specs.Bytes.{load}
 use Rattle.state.specs.declared.State.{State}
 use Rattle.state.specs.States.{no_state, well_formed, state_checked}
-use Rattle.state.proofs.Laws.{malformed, form-passed}
+use Rattle.state.proofs.Laws.{malformed, form_passed}
 use Rattle.boards.specs.Boards.{BoardFits, start_checked}
-use Rattle.boards.proofs.Boards.{start-refused, start-passed, start_accepted, start-passes}
+use Rattle.boards.proofs.Boards.{start-refused, start_passed, start_accepted, start_passes}
 use Rattle.engine.specs.Steps.{World, masked, onward, checked, paused, ran, retired}
 use Rattle.engine.proofs.Laws.{ran-onward, ran-add, retired-add}
 use Rattle.engine.proofs.Kept.{Runnable, runnable_passes, passes_runnable, runnable_ran}
@@ -32,16 +32,16 @@ use Rattle.machine.specs.declared.Ran.{Ran}
 use Rattle.machine.proofs.Entries.{run_accepted}
 use Rattle.machine.specs.Entries.{ran_to, run_given, no_run, run_entry, of_ran}
 use Rattle.records.specs.Records.{record_of, state_of, record_checked}
-use Rattle.records.proofs.Records.{length-record, record_sound, write-back, bytes_fit, old-record}
+use Rattle.records.proofs.Records.{length_record, record_sound, write_back, bytes_fit, old_record}
 use Rattle.slots.specs.Slots.{slot_there, slot_at, slot_set, write_checked, write_entry, of_write, read_checked, read_to, no_read, read_entry, of_read_back}
-use Rattle.slots.proofs.Slots.{there-fits, slot-length, slot-set-at, take-before, drop-after, slot_same, slot-bytes, ReadsWell, reads_well, same-record, SlotHolds, holds-set, read_held, write-passes, check-was, state-was, one-slot-there, one-slot-at}
+use Rattle.slots.proofs.Slots.{there-fits, slot-length, slot_set_at, take-before, drop-after, slot_same, slot-bytes, ReadsWell, reads_well, same_record, SlotHolds, holds_set, read_held, write_passes, check_was, state_was, one_slot_there, one_slot_at}
 use Rattle.resume.specs.declared.Resumed.{Resumed}
 use Rattle.resume.specs.declared.Resumed.TheVariants as A
 use Rattle.resume.specs.Resuming.{Bench, shared_bench, bench_on, slot_world, bench_left, resume_checked, resume_given, resume_entry, of_resumed}
 use Rattle.promises.specs.Cuts.{Piece, SlotsThere, left_by, read_back, cut_run, answers, total, manual, Cut, sum_answered, RetiredAddsUp, slot_start, slot_run, SlotRunIsRun, slot_runs, answered, slot_answers, added, SlotRunsAddUp, SlotRunAnswers, SlotsStay, RecordOfState, StateOfRecord, NoStateOfRecord, OldRecordsLoad, SlotStaysFormed, WritesItsSlot}
 use Rattle.promises.specs.Refusals.{Malformed, RecordMalformed}
 use Rattle.promises.proofs.Refusals.{accepted_passes, slot_accepted_passes}
-use Rattle.promises.proofs.Steps.{no-budget, stays_stopped}
+use Rattle.promises.proofs.Steps.{no_budget, stays_stopped}
 
 -- ---- one run, and one cut
 
@@ -54,11 +54,11 @@ left_by_lem b {v} {w} e g =
     ∙ ran-onward b w
 
 -- a state that was written to a slot is read back from it
-pub reads-back : (p : Piece) (w : World) → Runnable w → slot_there p.slot p.slots ≡ true → read_back p w ≡ w
-reads-back p w g t =
+pub reads_back : (p : Piece) (w : World) → Runnable w → slot_there p.slot p.slots ≡ true → read_back p w ≡ w
+reads_back p w g t =
     let s = w.st in
-    ap (λ o. onward w (read_entry p.slot o.lent).answer.state w.board) (write-passes p.slot s p.slots t g.0.1)
-    ∙ ap (λ o. onward w o.answer.state w.board) (read_held p.slot s _ (holds-set p.slot s p.slots g.0.0.x_length t) g.0.0 g.0.1)
+    ap (λ o. onward w (read_entry p.slot o.lent).answer.state w.board) (write_passes p.slot s p.slots t g.0.1)
+    ∙ ap (λ o. onward w o.answer.state w.board) (read_held p.slot s _ (holds_set p.slot s p.slots g.0.0.x_length t) g.0.0 g.0.1)
 
 -- ---- the pieces, one after the other
 
@@ -68,19 +68,19 @@ ends b [] {v} {w} e g t = (left_by_lem b e g, ap (λ q. of_ran q.answer ∷ []) 
 ends b (p ∷ ps) {v} {w} e g t =
     let o = run-runs b e g in
     let g' : Runnable (ran b w) = runnable_ran b w g in
-    let i = ends p.budget ps (ap (read_back p) (left_by_lem b e g) ∙ reads-back p (ran b w) g' t.0) g' t.1 in
+    let i = ends p.budget ps (ap (read_back p) (left_by_lem b e g) ∙ reads_back p (ran b w) g' t.0) g' t.1 in
     (i.0 ∙ sym (ran-add b (total p.budget ps) w), λ j. of_ran (o j).answer ∷ i.1 j)
 
 pub cut : Cut
 cut b ps w z a t = ends b ps refl (passes_runnable w z (accepted_passes w a)) t
 
-manual-adds-up : (b : ℕ) (ps : List Piece) (w : World) → sum_answered (manual b ps w) ≡ retired (total b ps) w
+manual_adds_up : (b : ℕ) (ps : List Piece) (w : World) → sum_answered (manual b ps w) ≡ retired (total b ps) w
 unfolding sum_answered manual total
-manual-adds-up b [] w = omega arith
-manual-adds-up b (p ∷ ps) w = ap (λ n. retired b w + n) (manual-adds-up p.budget ps (ran b w)) ∙ sym (retired-add b (total p.budget ps) w)
+manual_adds_up b [] w = omega arith
+manual_adds_up b (p ∷ ps) w = ap (λ n. retired b w + n) (manual_adds_up p.budget ps (ran b w)) ∙ sym (retired-add b (total p.budget ps) w)
 
-pub retired-adds-up : RetiredAddsUp
-retired-adds-up b ps w z a t = ap sum_answered (cut b ps w z a t).1 ∙ manual-adds-up b ps w
+pub retired_adds_up : RetiredAddsUp
+retired_adds_up b ps w z a t = ap sum_answered (cut b ps w z a t).1 ∙ manual_adds_up b ps w
 
 -- ---- running a slot
 
@@ -90,7 +90,7 @@ run-left : (b k n : ℕ) (h : Bench) (v : World) → slot_there k h.slots ≡ tr
 unfolding slot_run
 run-left b k n h v t g e =
     ap (λ (o : Outcome Ran _). bench_on h o.lent (write_entry k o.answer.state h.slots).lent) e
-    ∙ ap (λ (o : Outcome Check _). bench_on h v.board o.lent) (write-passes k v.st h.slots t g.0.1)
+    ∙ ap (λ (o : Outcome Check _). bench_on h v.board o.lent) (write_passes k v.st h.slots t g.0.1)
 
 -- a refused one leaves everything: there is no state to write
 run-refused : (b k : ℕ) (h : Bench) (r : Refusal) → checked (slot_start k h) ≡ Refused r → slot_run b k h ≡ h
@@ -119,8 +119,8 @@ module _ (b k : ℕ) (h : Bench) where
   unread : (r : Refusal) → start_checked h.board h.masks Passed ≡ Passed → read_checked k h.slots ≡ Refused r → Same
   unfolding decided
   unread r l e =
-      both-refused r R.StopNumber (start-passed h.board h.masks _ l ∙ e)
-      (start-passed h.board h.masks _ l ∙ ap (λ c. state_checked (decided c (outcome (read_to (slot_world k h).st) tt) no_read tt).answer.state) e)
+      both-refused r R.StopNumber (start_passed h.board h.masks _ l ∙ e)
+      (start_passed h.board h.masks _ l ∙ ap (λ c. state_checked (decided c (outcome (read_to (slot_world k h).st) tt) no_read tt).answer.state) e)
 
   -- the state that was read fits, for bytes are bytes
   read : BoardFits h.board → AllBelow (2 ^ 8) h.slots → start_checked h.board h.masks Passed ≡ Passed → read_checked k h.slots ≡ Passed → Same
@@ -131,19 +131,19 @@ module _ (b k : ℕ) (h : Bench) where
       let a : slot_start k h ≡ w = ap (λ c. masked h.masks (decided c (outcome (read_to w.st) tt) no_read tt).answer.state h.board) e in
       let q = start_accepted h.board h.masks Passed l in
       let g : Runnable w = ((bytes_fit (slot_at k h.slots) (slot-bytes k h.slots sb), r.formed), (f, q.0), q.1) in
-      ap (λ c. (resumed c).lent) (start-passed h.board h.masks _ l ∙ e) ∙ sym (run-left b k (retired b w) h (ran b w) r.there (runnable_ran b w g) (run-runs b a g))
+      ap (λ c. (resumed c).lent) (start_passed h.board h.masks _ l ∙ e) ∙ sym (run-left b k (retired b w) h (ran b w) r.there (runnable_ran b w g) (run-runs b a g))
 
-pub slot-run-is-run : SlotRunIsRun
-slot-run-is-run b k h f sb = go (start_checked h.board h.masks Passed) (read_checked k h.slots) refl refl
+pub slot_run_is_run : SlotRunIsRun
+slot_run_is_run b k h f sb = go (start_checked h.board h.masks Passed) (read_checked k h.slots) refl refl
   where
     go : (c d : Check) → start_checked h.board h.masks Passed ≡ c → read_checked k h.slots ≡ d → Same b k h
     go (Refused r) d l e = both-refused b k h r r (start-refused h.board h.masks _ l) (start-refused h.board h.masks _ l)
     go Passed (Refused r) l e = unread b k h r l e
     go Passed Passed l e = read b k h f sb l e
 
-pub slot-run-answers : SlotRunAnswers
+pub slot_run_answers : SlotRunAnswers
 unfolding decided
-slot-run-answers b k h a = ap (λ c. of_resumed (resumed b k h c).answer) (slot_accepted_passes k h a)
+slot_run_answers b k h a = ap (λ c. of_resumed (resumed b k h c).answer) (slot_accepted_passes k h a)
 
 -- ---- slot runs, one after the other
 
@@ -153,9 +153,9 @@ slot-goes : (b k : ℕ) (h : Bench) (s : State) → SlotHolds k s h.slots → Ru
 unfolding decided
 slot-goes b k h s p g =
     let e = sym (read_held k s h.slots p g.0.0 g.0.1) in
-    let c : resume_checked k h ≡ Passed = start-passes h.board h.masks _ g.1.1 g.2 ∙ check-was k h.slots e refl in
+    let c : resume_checked k h ≡ Passed = start_passes h.board h.masks _ g.1.1 g.2 ∙ check_was k h.slots e refl in
     ap (resumed b k h) c
-    ∙ ap (λ q. outcome (A.Retired (retired b (masked h.masks q h.board))) (bench_left k (ran b (masked h.masks q h.board)) h)) (sym (state-was k h.slots e refl))
+    ∙ ap (λ q. outcome (A.Retired (retired b (masked h.masks q h.board))) (bench_left k (ran b (masked h.masks q h.board)) h)) (sym (state_was k h.slots e refl))
 
 -- the bench h has the world v, in slot k and on its board, and n were answered where m should be
 abbrev Holds : ℕ → Bench → World → ℕ → ℕ → Type 0
@@ -164,11 +164,11 @@ Holds k h v n m = (of_read_back (read_entry k h.slots).answer ≡ given v.st) ×
 moved : (k : ℕ) {p q : Bench} {v u : World} {a b c d : ℕ} → p ≡ q → v ≡ u → a ≡ b → d ≡ c → Holds k q u b c → Holds k p v a d
 moved k e f g h i = rw (e, f, g, h) i
 
-slot-ends : (k : ℕ) (bs : List ℕ) (h : Bench) (s : State) → SlotHolds k s h.slots → Runnable (masked h.masks s h.board)
+slot_ends : (k : ℕ) (bs : List ℕ) (h : Bench) (s : State) → SlotHolds k s h.slots → Runnable (masked h.masks s h.board)
     → Holds k (slot_runs k bs h) (ran (added bs) (masked h.masks s h.board)) (slot_answers k bs h) (retired (added bs) (masked h.masks s h.board))
 unfolding slot_runs slot_answers added ran retired
-slot-ends k [] h s p g = (ap (λ (o : Outcome _ _). of_read_back o.answer) (read_held k s h.slots p g.0.0 g.0.1), refl, refl)
-slot-ends k (b ∷ bs) h s p g =
+slot_ends k [] h s p g = (ap (λ (o : Outcome _ _). of_read_back o.answer) (read_held k s h.slots p g.0.0 g.0.1), refl, refl)
+slot_ends k (b ∷ bs) h s p g =
     let w : World = masked h.masks s h.board in
     let v : World = ran b w in
     let g' : Runnable v = runnable_ran b w g in
@@ -176,48 +176,48 @@ slot-ends k (b ∷ bs) h s p g =
     let left : Bench = bench_left k v h in
     let u : World = masked h.masks v.st v.board in
     let same : u ≡ v = ran-onward b w in
-    let i = slot-ends k bs left v.st (holds-set k v.st h.slots g'.0.0.x_length p.there) (subst Runnable (sym same) g') in
+    let i = slot_ends k bs left v.st (holds_set k v.st h.slots g'.0.0.x_length p.there) (subst Runnable (sym same) g') in
     moved k (ap (λ o. slot_runs k bs o.lent) e) (ran-add b (added bs) w ∙ ap (ran (added bs)) (sym same))
     (ap (λ o. answered (of_resumed o.answer) + slot_answers k bs o.lent) e)
     (retired-add b (added bs) w)
     (i.0, i.1, ap (λ n. retired b w + n) (i.2 ∙ ap (retired (added bs)) same))
 
-pub slot-runs-add-up : SlotRunsAddUp
-slot-runs-add-up k bs w slots z a t =
+pub slot_runs_add_up : SlotRunsAddUp
+slot_runs_add_up k bs w slots z a t =
     let g : Runnable w = passes_runnable w z (accepted_passes w a) in
-    rw (write-passes k w.st slots t g.0.1) (slot-ends k bs (bench_left k w (shared_bench w.masks w.board slots)) w.st (holds-set k w.st slots z.state_fits.x_length t) g)
+    rw (write_passes k w.st slots t g.0.1) (slot_ends k bs (bench_left k w (shared_bench w.masks w.board slots)) w.st (holds_set k w.st slots z.state_fits.x_length t) g)
 
 -- ---- a slot as it was
 
 rests : (b : ℕ) (w : World) → (b ≡ 0) ⊎ (paused w ≡ false) → (ran b w ≡ w) × (retired b w ≡ 0)
-rests b w (inl e) = rw e (no-budget w)
+rests b w (inl e) = rw e (no_budget w)
 rests b w (inr e) = let s = stays_stopped b w e in (s.1, s.2)
 
-pub slots-stay : SlotsStay
+pub slots_stay : SlotsStay
 unfolding decided
-slots-stay b k h sb a q =
+slots_stay b k h sb a q =
     let c = slot_accepted_passes k h a in
     let s = rests b (slot_world k h) q in
     let r : ReadsWell k h.slots = reads_well k h.slots (start_accepted h.board h.masks _ c).2 in
     ap (resumed b k h) c
     ∙ ap₂ (λ n v. outcome (A.Retired n) (bench_left k v h)) s.1 s.0
-    ∙ ap (λ bytes. outcome (A.Retired 0) (bench_on h h.board (slot_set k bytes h.slots))) (same-record k h.slots sb r)
+    ∙ ap (λ bytes. outcome (A.Retired 0) (bench_on h h.board (slot_set k bytes h.slots))) (same_record k h.slots sb r)
     ∙ ap (λ slots. outcome (A.Retired 0) (bench_on h h.board slots)) (slot_same k h.slots)
 
 -- ---- one slot
 
-pub record-of-state : RecordOfState
-record-of-state r b l h = write-back r l b (go (eqb (load 3 137 r) 0) refl)
+pub record_of_state : RecordOfState
+record_of_state r b l h = write_back r l b (go (eqb (load 3 137 r) 0) refl)
   where
     go : (t : Bool) → eqb (load 3 137 r) 0 ≡ t → load 3 137 r ≡ 0
     go true e = eqb-true _ _ e
     go false e = absurd (h (inr (eqb-false _ _ e)))
 
-pub state-of-record : StateOfRecord
-state-of-record s f h =
+pub state_of_record : StateOfRecord
+state_of_record s f h =
     let r : List ℕ = record_of s in
-    let l = length-record s f.x_length in
-    ap (λ o. of_read_back o.answer) (read_held 0 s r (record { there = one-slot-there r l; record-held = one-slot-at r l }) f (go (well_formed s) refl))
+    let l = length_record s f.x_length in
+    ap (λ o. of_read_back o.answer) (read_held 0 s r (record { there = one_slot_there r l; record_held = one_slot_at r l }) f (go (well_formed s) refl))
   where
     go : (t : Bool) → well_formed s ≡ t → well_formed s ≡ true
     go true e = e
@@ -225,22 +225,22 @@ state-of-record s f h =
 
 sound_not_malformed : (r : List ℕ) → record_checked r ≡ Passed → RecordMalformed r → ⊥
 sound_not_malformed r e m =
-    let q = form-passed (eqb (load 3 137 r) 0) (state_of r) e in
+    let q = form_passed (eqb (load 3 137 r) 0) (state_of r) e in
     ⊎_elim (λ b. omega (arith, ap flag (sym q.1 ∙ (malformed (state_of r)).1 b))) (λ f. f (eqb-true _ _ q.0)) m
 
-pub no-state-of-record : NoStateOfRecord
+pub no_state_of_record : NoStateOfRecord
 unfolding decided
-no-state-of-record r l h = rw (one-slot-there r l, one-slot-at r l) (go (record_checked r) refl)
+no_state_of_record r l h = rw (one_slot_there r l, one_slot_at r l) (go (record_checked r) refl)
   where
     go : (c : Check) → record_checked r ≡ c → Malformed (decided c (outcome (read_to (state_of r)) (tt {0})) no_read (tt {0})).answer.state
     go Passed e = absurd (sound_not_malformed r e h)
     go (Refused x) e = inr (inl (lit< tt))
 
-pub old-records-load : OldRecordsLoad
+pub old_records_load : OldRecordsLoad
 unfolding decided
-old-records-load k slots t old =
+old_records_load k slots t old =
     let r : List ℕ = slot_at k slots in
-    let e = old-record r (slot-length k slots t) old.pc_even (omega (arith, old.stop_known)) old.rest_zero in
+    let e = old_record r (slot-length k slots t) old.pc_even (omega (arith, old.stop_known)) old.rest_zero in
     let passes : read_checked k slots ≡ Passed = rw (t, e.0) in
     (λ m. sound_not_malformed r e.0 m, ap (λ c. of_read_back (decided c (outcome (read_to (state_of r)) tt) no_read tt).answer) passes ∙ ap given e.1)
 
@@ -255,12 +255,12 @@ slot_stays_formed b k h f sb a m =
     let v : Runnable (ran b w) = runnable_ran b w g in
     let s : State = (ran b w).st in
     let held : slot_at k (resume_entry b k h).lent.slots ≡ record_of s =
-    ap (λ d. slot_at k (resumed b k h d).lent.slots) c ∙ slot-set-at k (record_of s) h.slots (length-record s v.0.0.x_length) (there-fits k h.slots r.there) in
+    ap (λ d. slot_at k (resumed b k h d).lent.slots) c ∙ slot_set_at k (record_of s) h.slots (length_record s v.0.0.x_length) (there-fits k h.slots r.there) in
     sound_not_malformed (record_of s) (record_sound s v.0.0 v.0.1) (subst RecordMalformed held m)
 
-pub writes-its-slot : WritesItsSlot
+pub writes_its_slot : WritesItsSlot
 unfolding decided
-writes-its-slot k s slots f = go (write_checked k s slots) refl
+writes_its_slot k s slots f = go (write_checked k s slots) refl
   where
     wrote : Check → Outcome Check (List ℕ)
     wrote c = decided c (outcome Passed (slot_set k (record_of s) slots)) Refused slots
@@ -270,7 +270,7 @@ writes-its-slot k s slots f = go (write_checked k s slots) refl
         × (slot_at k (wrote c).lent ≡ record_of s)
         × (drop (144 * k + 144) (wrote c).lent ≡ drop (144 * k + 144) slots)
     go Passed h e =
-        let i = there-fits k slots (both-passed (slot_there k slots) R.Slot (state_checked s) h).0 in
-        let l = length-record s f.x_length in
-        (take-before k (record_of s) slots l i, slot-set-at k (record_of s) slots l i, drop-after k (record_of s) slots l i)
+        let i = there-fits k slots (both_passed (slot_there k slots) R.Slot (state_checked s) h).0 in
+        let l = length_record s f.x_length in
+        (take-before k (record_of s) slots l i, slot_set_at k (record_of s) slots l i, drop-after k (record_of s) slots l i)
     go (Refused r) h e = absurd (apart (sym e))

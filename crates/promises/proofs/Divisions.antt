@@ -5,5 +5,5 @@ use Rattle.promises.specs.Divisions.{ByZero, LowestByMinusOne}
 pub by_zero : ByZero
 by_zero a = (refl, refl, refl, refl)
 
-pub lowest-by-minus-one : LowestByMinusOne
-lowest-by-minus-one = (refl, refl)
+pub lowest_by_minus_one : LowestByMinusOne
+lowest_by_minus_one = (refl, refl)

@@ -2,11 +2,11 @@
 use mathlib.Core.Path.{sym, ap, ◌∙◌}
 use Rattle.promises.specs.Equations.{OneOutcome, EqualParts}
 
-pub one-outcome : OneOutcome
-one-outcome A meant o p e f = e ∙ sym f
+pub one_outcome : OneOutcome
+one_outcome A meant o p e f = e ∙ sym f
 
-pub equal-parts : EqualParts
-equal-parts = (
+pub equal_parts : EqualParts
+equal_parts = (
   λ A B a c b d e. (ap (λ o. o.answer) e, ap (λ o. o.lent) e),
   λ A B a c b d e. (ap (λ o. o.0) e, ap (λ o. o.1) e),
   λ m n f g e. (ap (λ o. o.mem) e, ap (λ o. o.row) e),

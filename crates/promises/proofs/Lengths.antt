@@ -74,31 +74,31 @@ store-onward own (Fuse k) o v a m n b = by_mask (owns own k)
 store-onward own Misaligned o v a m n b = refl
 store-onward own Outside o v a m n b = refl
 
-branch-onward : (t : Bool) (to m n : ℕ) (b : Board)
+branch_onward : (t : Bool) (to m n : ℕ) (b : Board)
     → outcome (Next x0 0 (cond t to m)) b ≡ outcome (ending_at m (record { value = false; next = not t }) (Next x0 0 (cond t to n))) b
-branch-onward true to m n b = refl
-branch-onward false to m n b = refl
+branch_onward true to m n b = refl
+branch_onward false to m n b = refl
 
 -- ---- the promises
 
-pub length-only : LengthOnly
+pub length_only : LengthOnly
 unfolding act_fetched act_of performed
-length-only own (Lui rd field) m n pc x b = refl
-length-only own (Auipc rd field) m n pc x b = refl
-length-only own (Jal rd imm) m n pc x b = refl
-length-only own (Jalr rd rs1 imm) m n pc x b = refl
-length-only own (Branch o rs1 rs2 imm) m n pc x b = branch-onward (takes o (register_of x rs1) (register_of x rs2)) (sum pc imm) (sum pc m) (sum pc n) b
-length-only own (Load o rd rs1 imm) m n pc x b =
+length_only own (Lui rd field) m n pc x b = refl
+length_only own (Auipc rd field) m n pc x b = refl
+length_only own (Jal rd imm) m n pc x b = refl
+length_only own (Jalr rd rs1 imm) m n pc x b = refl
+length_only own (Branch o rs1 rs2 imm) m n pc x b = branch_onward (takes o (register_of x rs1) (register_of x rs2)) (sum pc imm) (sum pc m) (sum pc n) b
+length_only own (Load o rd rs1 imm) m n pc x b =
     ap (λ e. outcome e b) (load-onward own (load_place o (sum (register_of x rs1) imm) b) o rd (sum (register_of x rs1) imm) (sum pc m) (sum pc n) b)
-length-only own (Store o rs1 rs2 imm) m n pc x b =
+length_only own (Store o rs1 rs2 imm) m n pc x b =
     store-onward own (store_place o (sum (register_of x rs1) imm) b) o (register_of x rs2) (sum (register_of x rs1) imm) (sum pc m) (sum pc n) b
-length-only own (Imm o rd rs1 imm) m n pc x b = refl
-length-only own (Shift o rd rs1 shamt) m n pc x b = refl
-length-only own (Arith o rd rs1 rs2) m n pc x b = refl
-length-only own (Fence rd rs1 field) m n pc x b = refl
-length-only own Ecall m n pc x b = refl
-length-only own Ebreak m n pc x b = refl
-length-only own (MulDiv o rd rs1 rs2) m n pc x b = refl
+length_only own (Imm o rd rs1 imm) m n pc x b = refl
+length_only own (Shift o rd rs1 shamt) m n pc x b = refl
+length_only own (Arith o rd rs1 rs2) m n pc x b = refl
+length_only own (Fence rd rs1 field) m n pc x b = refl
+length_only own Ecall m n pc x b = refl
+length_only own Ebreak m n pc x b = refl
+length_only own (MulDiv o rd rs1 rs2) m n pc x b = refl
 
 pub short_acts_as_long : ShortActsAsLong
 short_acts_as_long own i pc x m2 m4 b l2 short l4 long =
@@ -114,4 +114,4 @@ short_acts_as_long own i pc x m2 m4 b l2 short l4 long =
       le-leb (pc + 4) _ l4,
       legal-is (decoded word) i d,
     )
-    (refl, refl, length-only own i 2 4 pc x b)
+    (refl, refl, length_only own i 2 4 pc x b)

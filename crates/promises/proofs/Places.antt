@@ -55,8 +55,8 @@ same {p} {q} e = holds (eqb (kind p) (kind q)) (eq-eqb _ _ (ap kind e))
 
 -- ---- the promises
 
-pub memory-exactly : MemoryExactly
-memory-exactly w a size i = go (lies (width_bytes w) a size)
+pub memory_exactly : MemoryExactly
+memory_exactly w a size i = go (lies (width_bytes w) a size)
   where
     go : {p : Place} → Lies (width_bytes w) a size p → (p ≡ Memory i) ↔ ((a % width_bytes w ≡ 0) × (a + width_bytes w ≤ size) × (i ≡ a))
     go (off h) = (λ e. absurd (same e), λ c. absurd (h c.0))
@@ -87,8 +87,8 @@ misaligned_exactly w a size = go (lies (width_bytes w) a size)
     go (fused x y t) = (λ e. absurd (same e), λ c. absurd (c x))
     go (out x y t) = (λ e. absurd (same e), λ c. absurd (c x))
 
-pub outside-exactly : OutsideExactly
-outside-exactly w a size = go (lies (width_bytes w) a size)
+pub outside_exactly : OutsideExactly
+outside_exactly w a size = go (lies (width_bytes w) a size)
   where
     Otherwise : Type 0
     Otherwise = (a % width_bytes w ≡ 0) × (a + width_bytes w ≤ size → ⊥) × ((k : ℕ) → FuseWord w a k → ⊥)

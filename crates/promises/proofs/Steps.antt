@@ -17,23 +17,23 @@ use Rattle.execute.specs.Execution.{act_of}
 use Rattle.execute.proofs.Acts.{StopsBy, EndsBare, ends_bare}
 use Rattle.fetch.proofs.Laws.{FailsBy, fetch_fails}
 use Rattle.engine.specs.Steps.{World, onward, asked, ran, retired}
-use Rattle.engine.proofs.Walk.{by-asked}
+use Rattle.engine.proofs.Walk.{by_asked}
 use Rattle.engine.proofs.Kept.{passes_runnable, runnable_ran}
-use Rattle.engine.proofs.Laws.{step_stopped, ran_stopped, retired_stopped, counts_up, stops-with, paused-exactly}
-use Rattle.machine.proofs.Entries.{one-step, run_accepted}
+use Rattle.engine.proofs.Laws.{step_stopped, ran_stopped, retired_stopped, counts_up, stops_with, paused_exactly}
+use Rattle.machine.proofs.Entries.{one_step, run_accepted}
 use Rattle.promises.specs.Steps.{StepIsManual, RunIsManual, address_for, StopsCleanly, StaysFormed, StepIsRun, Counts, NoBudget, StaysStopped, PausedAtBudget}
 use Rattle.word.specs.Bits.{flag}
 use Rattle.machine.specs.Entries.{run_entry}
 use Rattle.promises.specs.Refusals.{Malformed}
 use Rattle.promises.proofs.Refusals.{accepted_passes}
 
-pub step-is-manual : StepIsManual
+pub step_is_manual : StepIsManual
 unfolding decided
-step-is-manual w a = rw (accepted_passes w a, decided) (refl, refl)
+step_is_manual w a = rw (accepted_passes w a, decided) (refl, refl)
 
-pub run-is-manual : RunIsManual
+pub run_is_manual : RunIsManual
 unfolding decided
-run-is-manual b w a = rw (accepted_passes w a, decided) (refl, refl)
+run_is_manual b w a = rw (accepted_passes w a, decided) (refl, refl)
 
 -- ---- where a step stops
 
@@ -54,24 +54,24 @@ module _ (w : World) where
   bare_located (Ends c) (inl e) why by = let h : why ≡ nowhere S.Ecall = by ∙ e in rw h
   bare_located (Ends c) (inr e) why by = let h : why ≡ nowhere S.Ebreak = by ∙ e in rw h
 
-  failed-located : (c : Cause) → FailsBy w.st.pc w.board.mem c → Located (Ends c)
-  failed-located c (inl e) why by = let h : why ≡ cause S.IllegalInstruction w.st.pc = by ∙ e in rw h
-  failed-located c (inr e) why by = let h : why ≡ cause S.FetchOutside _ = by ∙ e in rw h
+  failed_located : (c : Cause) → FailsBy w.st.pc w.board.mem c → Located (Ends c)
+  failed_located c (inl e) why by = let h : why ≡ cause S.IllegalInstruction w.st.pc = by ∙ e in rw h
+  failed_located c (inr e) why by = let h : why ≡ cause S.FetchOutside _ = by ∙ e in rw h
 
   located : Located (asked w)
   located =
-      by-asked w Located (λ why by. rw by)
-      (λ c e. failed-located c (fetch_fails w.st.pc w.board.mem e))
+      by_asked w Located (λ why by. rw by)
+      (λ c e. failed_located c (fetch_fails w.st.pc w.board.mem e))
       (λ i len room e. bare_located (act_of i _ w.st.pc w.st.x) (ends_bare i _ w.st.pc w.st.x))
 
 pub stops_cleanly : StopsCleanly
 stops_cleanly w p e =
-    let s = stops-with w p e in
+    let s = stops_with w p e in
     let why : Cause = s.0 in
     (why.stop, s.2 ∙ ap (λ a. onward w (state w.st.pc w.st.x w.st.count (stop_number why.stop) a) w.board) (located w why s.1))
 
 pub stays_formed : StaysFormed
-stays_formed b w z a = (rw (one-step w).1 (formed 1), formed b)
+stays_formed b w z a = (rw (one_step w).1 (formed 1), formed b)
   where
     well : (n : ℕ) → well_formed (ran n w).st ≡ true
     well n = (runnable_ran n w (passes_runnable w z (accepted_passes w a))).0.1
@@ -81,20 +81,20 @@ stays_formed b w z a = (rw (one-step w).1 (formed 1), formed b)
         let e : (run_entry n w).answer.state ≡ (ran n w).st = ap (λ o. o.answer.state) (run_accepted n w (accepted_passes w a)) in
         omega (arith, ap flag (sym (well n) ∙ (malformed (ran n w).st).1 (subst Malformed e m)))
 
-pub step-is-run : StepIsRun
-step-is-run = one-step
+pub step_is_run : StepIsRun
+step_is_run = one_step
 
 pub counts : Counts
 counts = counts_up
 
-pub no-budget : NoBudget
+pub no_budget : NoBudget
 unfolding ran retired
-no-budget w = (refl, refl)
+no_budget w = (refl, refl)
 
 pub stays_stopped : StaysStopped
 stays_stopped b w e =
     let h : w.st.stop ≡ 0 → ⊥ = eqb-false _ _ e in
     (step_stopped w h, ran_stopped b w h, retired_stopped b w h)
 
-pub paused-at-budget : PausedAtBudget
-paused-at-budget = paused-exactly
+pub paused_at_budget : PausedAtBudget
+paused_at_budget = paused_exactly

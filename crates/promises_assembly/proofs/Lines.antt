@@ -25,24 +25,24 @@ use Rattle.assembly.specs.Assembly.{gives, faulty, half_of, code_of, meaning, As
 use Rattle.assembly.proofs.Forms.{text_for}
 use Rattle.assembly.proofs.Back.{word_back, half_back}
 use Rattle.assembly.proofs.Only.{accepted}
-use Rattle.assembly.proofs.Refusals.{refused-10, refused_11, refused_12, which}
-use Rattle.assembly.proofs.Steps.{nothing, line-then, line-faulty}
+use Rattle.assembly.proofs.Refusals.{refused_10, refused_11, refused_12, which}
+use Rattle.assembly.proofs.Steps.{nothing, line_then, line-faulty}
 use Rattle.assembler.proofs.Lines.{by_lines}
 use Rattle.promises_codes.proofs.Readings.{legal-is}
 use Rattle.promises_assembly.specs.Assembly.{Smallest, LineGives, word, half, LinesGive, none, line, AtFault, unreadable, wrong_number, no_half, FirstFault, here, later}
 
 -- ---- one line
 
-one-smallest : (i : Inst) (j k : ℕ) → Smallest i j → Smallest i k → j ≡ k
-one-smallest i j k p q = omega (arith, p.2 k q.0 q.1, q.2 j p.0 p.1)
+one_smallest : (i : Inst) (j k : ℕ) → Smallest i j → Smallest i k → j ≡ k
+one_smallest i j k p q = omega (arith, p.2 k q.0 q.1, q.2 j p.0 p.1)
 
 pub line-meaning : {l bs : List ℕ} → LineGives l bs → (rest : List ℕ) → meaning (l ++ rest) ≡ gives bs rest
 line-meaning (word w i h e) rest = ap meaning (append_assoc (text_of i) (10 ∷ []) rest) ∙ word_back w i rest h (legal-is (decoded w) i e)
 line-meaning (half h k i l e s) rest =
     let b = half_back h i rest l (legal-is (expanded h) i e) in
     let n : ℕ = b.0 in
-    let t : Smallest i n = (b.1.halfword, ap of_decoded b.1.stands-for, λ j u v. b.1.smallest-one j u (legal-is (expanded j) i v)) in
-    ap meaning (append_assoc (short_text_of i) (10 ∷ []) rest) ∙ b.2 ∙ ap (λ (n : ℕ). gives (little_endian 2 n) rest) (one-smallest i n k t s)
+    let t : Smallest i n = (b.1.halfword, ap of_decoded b.1.stands_for, λ j u v. b.1.smallest_one j u (legal-is (expanded j) i v)) in
+    ap meaning (append_assoc (short_text_of i) (10 ∷ []) rest) ∙ b.2 ∙ ap (λ (n : ℕ). gives (little_endian 2 n) rest) (one_smallest i n k t s)
 
 record Split (text bs rest : List ℕ) : Type 0 where
   front : List ℕ
@@ -59,8 +59,8 @@ coded i g true bs rest e = go (shortened i) refl e
     go (S.Half h) q e =
         let z : little_endian 2 h ≡ bs = cc in
         let s = shortened-is i h q in
-        let x : expands_to h = ap of_decoded s.stands-for in
-        subst (LineGives (short_text_of i ++ (10 ∷ []))) z (half h h i s.halfword x (s.halfword, x, λ k u v. s.smallest-one k u (legal-is (expanded k) i v)))
+        let x : expands_to h = ap of_decoded s.stands_for in
+        subst (LineGives (short_text_of i ++ (10 ∷ []))) z (half h h i s.halfword x (s.halfword, x, λ k u v. s.smallest_one k u (legal-is (expanded k) i v)))
       where
         expands_to : ℕ → Type 0
         expands_to h = of_decoded (expanded h) ≡ given i
@@ -88,7 +88,7 @@ record Fault (text : List ℕ) (n p : ℕ) : Type 0 where
   is : meaning text ≡ faulty refusal p
 
 fault-is : {text : List ℕ} {n p : ℕ} → AtFault text n p → Fault text n p
-fault-is {text} {n} {p} (unreadable h) = record { refusal = R.Unreadable; number = refl; is = (refused-10 text p).1 h }
+fault-is {text} {n} {p} (unreadable h) = record { refusal = R.Unreadable; number = refl; is = (refused_10 text p).1 h }
 fault-is {text} {n} {p} (wrong_number h) = record { refusal = R.NumberNotAllowed; number = refl; is = (refused_11 text p).1 h }
 fault-is {text} {n} {p} (no_half h) = record { refusal = R.NoShortLine; number = refl; is = (refused_12 text p).1 h }
 
@@ -96,15 +96,15 @@ at-fault : (text : List ℕ) (r : Refusal) (p : ℕ) → meaning text ≡ faulty
 at-fault text r p e = go (which text r p e)
   where
     go : (r ≡ R.Unreadable) ⊎ ((r ≡ R.NumberNotAllowed) ⊎ (r ≡ R.NoShortLine)) → AtFault text (number_of r) p
-    go (inl q) = rw q (unreadable ((refused-10 text p).0 (rw q at e)))
+    go (inl q) = rw q (unreadable ((refused_10 text p).0 (rw q at e)))
     go (inr (inl q)) = rw q (wrong_number ((refused_11 text p).0 (rw q at e)))
     go (inr (inr q)) = rw q (no_half ((refused_12 text p).0 (rw q at e)))
 
 -- ---- all lines
 
-pub lines-give : {text out : List ℕ} → LinesGive text out → assembled text ≡ output out
-lines-give none = nothing
-lines-give (line {l = l} {bs = bs} {text = text} {out = out} g r) = line-then (l ++ text) bs text (line-meaning g text) ∙ ap (before bs) (lines-give r)
+pub lines_give : {text out : List ℕ} → LinesGive text out → assembled text ≡ output out
+lines_give none = nothing
+lines_give (line {l = l} {bs = bs} {text = text} {out = out} g r) = line_then (l ++ text) bs text (line-meaning g text) ∙ ap (before bs) (lines_give r)
 
 pub record Refuses (text : List ℕ) (n k p : ℕ) : Type 0 where
   pub refusal : Refusal
@@ -117,7 +117,7 @@ fault_refuses (here {text = text} {n = n} {p = p} h f) =
     record { refusal = a.refusal; number = a.number; is = line-faulty text a.refusal p h a.is }
 fault_refuses (later {l = l} {bs = bs} {text = text} {n = n} {k = k} {p = p} g f) =
     let a = fault_refuses f in
-    record { refusal = a.refusal; number = a.number; is = line-then (l ++ text) bs text (line-meaning g text) ∙ ap (before bs) a.is }
+    record { refusal = a.refusal; number = a.number; is = line_then (l ++ text) bs text (line-meaning g text) ∙ ap (before bs) a.is }
 
 abbrev pub Told : List ℕ → Assembly → Type 0
 Told text (output out) = LinesGive text out

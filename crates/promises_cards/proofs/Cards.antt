@@ -42,9 +42,9 @@ second_run =
     ap (λ f. run_entry 100 (start image f)) (ap (λ (o : Outcome Ran Board). o.lent.row) first_run ∙ stops.1)
     ∙ run_ends 3 97 (start image spent-row) stops.2
 
-pub cards-hold : CardsHold
+pub cards_hold : CardsHold
 unfolding decoded expanded in_range try_for little_endian of_little_endian load store placed burnt loaded_from word_stored stored_in_row stored_to act_of performed fetched_with fetched act_fetched asked applied stepped ran retired all_keep decided
-cards-hold = (
+cards_hold = (
   (refl, tt),
   (
     (refl, tt),

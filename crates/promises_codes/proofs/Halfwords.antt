@@ -28,11 +28,11 @@ agree Illegal listed = listed
 abbrev test : ℕ → Bool
 test h = agree (expanded h) (illegal_half h)
 
-exactly-if : (d : Decoded) (listed : Bool) → T (agree d listed) → (of_decoded d ≡ refused_with 7) ↔ (listed ≡ true)
-exactly-if (Legal i) true t = absurd t
-exactly-if (Legal i) false t = (λ e. absurd (apart e), λ e. absurd (false≢true e))
-exactly-if Illegal true t = (λ e. refl, λ e. refl)
-exactly-if Illegal false t = absurd t
+exactly_if : (d : Decoded) (listed : Bool) → T (agree d listed) → (of_decoded d ≡ refused_with 7) ↔ (listed ≡ true)
+exactly_if (Legal i) true t = absurd t
+exactly_if (Legal i) false t = (λ e. absurd (apart e), λ e. absurd (false≢true e))
+exactly_if Illegal true t = (λ e. refl, λ e. refl)
+exactly_if Illegal false t = absurd t
 
 -- ---- cases of a number: n of them, from a on
 
@@ -115,5 +115,5 @@ module _ (h : ℕ) (small : h < 2 ^ 16) where
   passes : T (test h)
   passes = pick (λ q. low 2 h ≡ q → T (test h)) 4 0 (quadrant_0 and quadrant_1 and quadrant_2 and quadrant_3 and tt) (low 2 h) zero-le (omega arith) refl
 
-pub exactly-listed : (h : ℕ) → h < 2 ^ 16 → (expands h ≡ refused_with 7) ↔ (illegal_half h ≡ true)
-exactly-listed h l = exactly-if (expanded h) (illegal_half h) (passes h l)
+pub exactly_listed : (h : ℕ) → h < 2 ^ 16 → (expands h ≡ refused_with 7) ↔ (illegal_half h ≡ true)
+exactly_listed h l = exactly_if (expanded h) (illegal_half h) (passes h l)

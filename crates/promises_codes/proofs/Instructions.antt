@@ -24,15 +24,15 @@ use Rattle.isa.specs.Rvc.{expanded}
 use Rattle.isa.specs.Shortening.{stands, shortened}
 use Rattle.isa.specs.Answers.{of_built, of_decoded, of_encoded, of_shortened}
 use Rattle.shortest.specs.Trial.{tried}
-use Rattle.shortest.proofs.Shortest.{by_one, expanded-in-range, shortened-one, shortened-is, no-short-form, none-stands}
+use Rattle.shortest.proofs.Shortest.{by_one, expanded_in_range, shortened_one, shortened-is, no_short_form, none-stands}
 use Rattle.roundtrip.proofs.Same.{back, parts_same}
 use Rattle.roundtrip.proofs.Words as Words
 use Rattle.chart.proofs.Legal as Chart
-use Rattle.chart.proofs.Count.{filled-57}
+use Rattle.chart.proofs.Count.{filled_57}
 use Rattle.promises_codes.specs.Instructions.{builds, decodes, Registers, DecodeRefuses, ExpandRefuses, EncodeRefuses, ShortenRefuses, ShortFormRefuses, BuildRefuses, OtherWidth, DecodeOfEncode, EncodeOfDecode, ExpansionEncodes, ExpandOfShorten, ShortenOfExpand, BuildOfParts, PartsOfBuild, LegalCharted, ChartFilled}
 use Rattle.answers.proofs.Order.{apart, same-value}
-use Rattle.promises_codes.proofs.Readings.{legal-is, bits_is, out-is, half_is, eight_is, nine_is, seven, eight}
-use Rattle.promises_codes.proofs.Halfwords.{exactly-listed}
+use Rattle.promises_codes.proofs.Readings.{legal-is, bits_is, out_is, half_is, eight_is, nine_is, seven, eight}
+use Rattle.promises_codes.proofs.Halfwords.{exactly_listed}
 
 -- ---- round trips of the words, and refusals
 
@@ -53,10 +53,10 @@ pub decode_refuses : DecodeRefuses
 decode_refuses w l = (λ e i m. apart (sym (decode_of_encode i w m) ∙ e), λ f. seven (decoded w) (λ i e. f i (encode_of_decode w i l e)))
 
 pub expand_refuses : ExpandRefuses
-expand_refuses = exactly-listed
+expand_refuses = exactly_listed
 
 pub encode_refuses : EncodeRefuses
-encode_refuses i = (λ e. go (in_range i) (out-is (encoded i) 8 e), λ e. rw e)
+encode_refuses i = (λ e. go (in_range i) (out_is (encoded i) 8 e), λ e. rw e)
   where
     go : (b : Bool) → cond b (E.Bits (word_of i)) E.OutOfRange ≡ E.OutOfRange → b ≡ false
     go true e = let z : ◌≡◌ {A = ℕ} 0 1 = cc in absurd (omega arith)
@@ -68,16 +68,16 @@ out_of_range true true h e = let z : ◌≡◌ {A = ℕ} 0 1 = cc in absurd (ome
 out_of_range true false h e = let z : ◌≡◌ {A = ℕ} 0 1 = cc in absurd (omega arith)
 out_of_range false b h e = refl
 
-in-range : (a b : Bool) (h : ℕ) → cond a (cond b (S.Half h) S.NoShortForm) S.OutOfRange ≡ S.NoShortForm → a ≡ true
-in-range true b h e = refl
-in-range false b h e = let z : ◌≡◌ {A = ℕ} 0 1 = cc in absurd (omega arith)
+in_range_lem : (a b : Bool) (h : ℕ) → cond a (cond b (S.Half h) S.NoShortForm) S.OutOfRange ≡ S.NoShortForm → a ≡ true
+in_range_lem true b h e = refl
+in_range_lem false b h e = let z : ◌≡◌ {A = ℕ} 0 1 = cc in absurd (omega arith)
 
 pub shorten_refuses : ShortenRefuses
 shorten_refuses i = (λ e. out_of_range (in_range i) (stands i (tried (parts_of i))) _ (sym (by_one i) ∙ eight_is (shortened i) e), λ e. rw e)
 
 pub short_form_refuses : ShortFormRefuses
 short_form_refuses i = (
-  λ e. (in-range (in_range i) (stands i (tried (parts_of i))) _ (sym (by_one i) ∙ nine_is (shortened i) e), λ h l m. no-short-form i (nine_is (shortened i) e) h l (legal-is (expanded h) i m)),
+  λ e. (in_range_lem (in_range i) (stands i (tried (parts_of i))) _ (sym (by_one i) ∙ nine_is (shortened i) e), λ h l m. no_short_form i (nine_is (shortened i) e) h l (legal-is (expanded h) i m)),
   λ p. ap of_shortened (none-stands i p.0 (λ h l m. p.1 h l (ap of_decoded m))),
 )
 
@@ -111,18 +111,18 @@ other_width = (λ w f. ap of_decoded (not-long w f), λ h e. ap of_decoded (not_
 -- ---- short and long
 
 pub expansion_encodes : ExpansionEncodes
-expansion_encodes h i l e = (word_of i, rw (expanded-in-range h i l (legal-is (expanded h) i e)))
+expansion_encodes h i l e = (word_of i, rw (expanded_in_range h i l (legal-is (expanded h) i e)))
 
 pub expand_of_shorten : ExpandOfShorten
 expand_of_shorten i h e =
     let s = shortened-is i h (half_is (shortened i) h e) in
-    (s.halfword, ap of_decoded s.stands-for, λ k l m. s.smallest-one k l (legal-is (expanded k) i m))
+    (s.halfword, ap of_decoded s.stands_for, λ k l m. s.smallest_one k l (legal-is (expanded k) i m))
 
 pub shorten_of_expand : ShortenOfExpand
 shorten_of_expand h i l e =
     let m = legal-is (expanded h) i e in
-    let s = shortened-one i h l m in
-    (tried (parts_of i), ap of_shortened s, (shortened-is i (tried (parts_of i)) s).smallest-one h l m)
+    let s = shortened_one i h l m in
+    (tried (parts_of i), ap of_shortened s, (shortened-is i (tried (parts_of i)) s).smallest_one h l m)
 
 -- ---- five numbers
 
@@ -146,8 +146,8 @@ passed p i e = go (registers_ok p) (same_parts (parts_of (built p)) p) e
 pub parts_of_build : PartsOfBuild
 parts_of_build p i e = let t = passed p i e in ap parts_of (sym t.2) ∙ parts_same (parts_of (built p)) p t.1
 
-below-32 : (p : Parts) → T (registers_ok p) → (p.rd < 32) × (p.rs1 < 32) × (p.rs2 < 32)
-below-32 p t =
+below_32 : (p : Parts) → T (registers_ok p) → (p.rd < 32) × (p.rs1 < 32) × (p.rs2 < 32)
+below_32 p t =
     let u = and_right (ltb p.rd 32) (ltb p.rs1 32 && ltb p.rs2 32) t in (
       ltb→lt p.rd 32 (and_left (ltb p.rd 32) (ltb p.rs1 32 && ltb p.rs2 32) t),
       ltb→lt p.rs1 32 (and_left (ltb p.rs1 32) (ltb p.rs2 32) u),
@@ -157,13 +157,13 @@ below-32 p t =
 pub build_refuses : BuildRefuses
 build_refuses p = (
   λ e i r q. apart (sym (build_of_parts i r) ∙ ap builds q ∙ e),
-  λ f. eight (inst_of p) (λ i e. let q = parts_of_build p i e in f i (rw q (below-32 p (passed p i e).0)) q),
+  λ f. eight (inst_of p) (λ i e. let q = parts_of_build p i e in f i (rw q (below_32 p (passed p i e).0)) q),
 )
 
 -- ---- the chart
 
-pub legal-charted : LegalCharted
-legal-charted w i e z = Chart.legal-charted w i (legal-is (decoded w) i e) z
+pub legal_charted : LegalCharted
+legal_charted w i e z = Chart.legal_charted w i (legal-is (decoded w) i e) z
 
 pub chart_filled : ChartFilled
-chart_filled = filled-57
+chart_filled = filled_57

@@ -3,15 +3,15 @@ use mathlib.Core.Path.{◌≡◌, sym, ◌∙◌}
 use mathlib.Core.Logic.{inl, inr}
 use native.Mathlib.Omega.{arith}
 use Rattle.answers.specs.Refusals.{number_of}
-use Rattle.answers.proofs.Numbers.{refusal-numbered, number-of-one, stop-numbered, stop-of-one}
+use Rattle.answers.proofs.Numbers.{refusal-numbered, number_of_one, stop-numbered, stop_of_one}
 use Rattle.answers.proofs.Order.{apart}
 use Rattle.promises_codes.specs.Instructions.{RefusalNumbers, StopNumbers, Replies}
 
-pub refusal-numbers : RefusalNumbers
-refusal-numbers = (λ r. ((refusal-numbered r).1, (refusal-numbered r).2), λ r s e w. number-of-one e w)
+pub refusal_numbers : RefusalNumbers
+refusal_numbers = (λ r. ((refusal-numbered r).1, (refusal-numbered r).2), λ r s e w. number_of_one e w)
 
-pub stop-numbers : StopNumbers
-stop-numbers = (λ s. ((stop-numbered s).1, (stop-numbered s).2), λ s t e. stop-of-one e)
+pub stop_numbers : StopNumbers
+stop_numbers = (λ s. ((stop-numbered s).1, (stop-numbered s).2), λ s t e. stop_of_one e)
 
 pub replies : Replies
 replies A a place (inl g) = (

@@ -23,9 +23,9 @@ pub bits_is : (d : Encoded) (w : ℕ) → of_encoded d ≡ given w → d ≡ E.B
 bits_is (E.Bits v) w e = ap E.Bits (same-value e)
 bits_is E.OutOfRange w e = absurd (apart (sym e))
 
-pub out-is : (d : Encoded) (n : ℕ) → of_encoded d ≡ refused_with n → d ≡ E.OutOfRange
-out-is (E.Bits v) n e = absurd (apart e)
-out-is E.OutOfRange n e = refl
+pub out_is : (d : Encoded) (n : ℕ) → of_encoded d ≡ refused_with n → d ≡ E.OutOfRange
+out_is (E.Bits v) n e = absurd (apart e)
+out_is E.OutOfRange n e = refl
 
 pub half_is : (s : Shortened) (h : ℕ) → of_shortened s ≡ given h → s ≡ S.Half h
 half_is (S.Half k) h e = ap S.Half (same-value e)

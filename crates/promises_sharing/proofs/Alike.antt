@@ -28,7 +28,7 @@ use Rattle.execute.specs.declared.Act.TheVariants.{Sets, Loads, Stores, Ends}
 use Rattle.execute.specs.Execution.{performed}
 use Rattle.engine.specs.Steps.{World, act_at, asked, step_done, applied, after, paused, stepped, ran, goes_on, completes, retired}
 use Rattle.promises_sharing.specs.Sharing.{Mine, Agree}
-use Rattle.promises_sharing.proofs.Agreeing.{agree-load, agree-burnt}
+use Rattle.promises_sharing.proofs.Agreeing.{agree_load, agree_burnt}
 
 -- ---- boards
 
@@ -45,22 +45,22 @@ module _ (own : ℕ) (m f g : List ℕ) (r : Agree (Mine own) f g) (l : length f
   still = record { mem = refl; row = r; long = l }
 
   -- n bytes of an own word
-  in-word : (k n a : ℕ) → owns own k ≡ true → 8 * k ≤ a → a + n ≤ 8 * k + 8 → load n a f ≡ load n a g
-  in-word k n a mine s t = agree-load n a r (λ i q. let d : (a + i) / 8 ≡ k = omega arith in rw d mine)
+  in_word : (k n a : ℕ) → owns own k ≡ true → 8 * k ≤ a → a + n ≤ 8 * k + 8 → load n a f ≡ load n a g
+  in_word k n a mine s t = agree_load n a r (λ i q. let d : (a + i) / 8 ≡ k = omega arith in rw d mine)
 
   -- a store to an own word
-  word-alike : (k v : ℕ) → k < 64 → owns own k ≡ true
+  word_alike : (k v : ℕ) → k < 64 → owns own k ≡ true
       → ((word_stored k v f).answer ≡ (word_stored k v g).answer) × Agree (Mine own) (word_stored k v f).lent (word_stored k v g).lent × (length (word_stored k v f).lent ≡ 512)
   unfolding word_stored
-  word-alike k v h mine = rw (← (in-word k 1 (8 * k + 4) mine (omega arith) (omega arith))) (go (eqb (mark_at k f) 0) (eqb (low 32 v) 0))
+  word_alike k v h mine = rw (← (in_word k 1 (8 * k + 4) mine (omega arith) (omega arith))) (go (eqb (mark_at k f) 0) (eqb (low 32 v) 0))
     where
-      word-by : Bool → Bool → List ℕ → Outcome Stored (List ℕ)
-      word-by blank none row = cond blank (outcome Done (cond none row (burnt k v row))) (outcome AlreadyBurnt row)
+      word_by : Bool → Bool → List ℕ → Outcome Stored (List ℕ)
+      word_by blank none row = cond blank (outcome Done (cond none row (burnt k v row))) (outcome AlreadyBurnt row)
 
       go : (s t : Bool)
-          → ((word-by s t f).answer ≡ (word-by s t g).answer) × Agree (Mine own) (word-by s t f).lent (word-by s t g).lent × (length (word-by s t f).lent ≡ 512)
+          → ((word_by s t f).answer ≡ (word_by s t g).answer) × Agree (Mine own) (word_by s t f).lent (word_by s t g).lent × (length (word_by s t f).lent ≡ 512)
       go true true = (refl, r, l)
-      go true false = (refl, agree-burnt k v h l r, length-burnt k v f h l)
+      go true false = (refl, agree_burnt k v h l r, length-burnt k v f h l)
       go false t = (refl, r, l)
 
   act_alike : (a : Act) → Likewise own (performed own a (board m f)) (performed own a (board m g))
@@ -68,16 +68,16 @@ module _ (own : ℕ) (m f g : List ℕ) (r : Agree (Mine own) f g) (l : length f
   act_alike (Sets rd v pc) = (refl, still)
   act_alike (Loads o rd a pc) = (go (A.load_place o a (board m f)), still)
     where
-      load-by : Bool → ℕ → Effect
-      load-by mine v = cond mine (Next rd v pc) (Halt (cause S.NotOwned a))
+      load_by : Bool → ℕ → Effect
+      load_by mine v = cond mine (Next rd v pc) (Halt (cause S.NotOwned a))
 
-      load-in-row : (k : ℕ) (mine : Bool) → owns own k ≡ mine → load-by mine (value_at k f) ≡ load-by mine (value_at k g)
-      load-in-row k true e = ap (λ v. Next rd v pc) (in-word k 4 (8 * k) e (omega arith) (omega arith))
-      load-in-row k false e = refl
+      load_in_row : (k : ℕ) (mine : Bool) → owns own k ≡ mine → load_by mine (value_at k f) ≡ load_by mine (value_at k g)
+      load_in_row k true e = ap (λ v. Next rd v pc) (in_word k 4 (8 * k) e (omega arith) (omega arith))
+      load_in_row k false e = refl
 
       go : (p : Place) → A.loaded_from own p o rd a pc (board m f) ≡ A.loaded_from own p o rd a pc (board m g)
       go (Memory i) = refl
-      go (Fuse k) = load-in-row k (owns own k) refl
+      go (Fuse k) = load_in_row k (owns own k) refl
       go Misaligned = refl
       go Outside = refl
   act_alike (Stores o v a pc) = go (A.store_place o a (board m f)) refl
@@ -85,14 +85,14 @@ module _ (own : ℕ) (m f g : List ℕ) (r : Agree (Mine own) f g) (l : length f
       store_by : ℕ → Bool → List ℕ → Outcome Effect (List ℕ)
       store_by k mine row = cond mine (outcome (A.of_stored (word_stored k v row).answer a pc) (word_stored k v row).lent) (outcome (Halt (cause S.NotOwned a)) row)
 
-      store-in-row : (k : ℕ) (mine : Bool) → k < 64 → owns own k ≡ mine
+      store_in_row : (k : ℕ) (mine : Bool) → k < 64 → owns own k ≡ mine
           → ((store_by k mine f).answer ≡ (store_by k mine g).answer) × Peers own (board m (store_by k mine f).lent) (board m (store_by k mine g).lent)
-      store-in-row k true h e = let w = word-alike k v h e in (ap (λ s. A.of_stored s a pc) w.0, record { mem = refl; row = w.1; long = w.2 })
-      store-in-row k false h e = (refl, still)
+      store_in_row k true h e = let w = word_alike k v h e in (ap (λ s. A.of_stored s a pc) w.0, record { mem = refl; row = w.1; long = w.2 })
+      store_in_row k false h e = (refl, still)
 
       go : (p : Place) → A.store_place o a (board m f) ≡ p → Likewise own (A.stored_to own p o v a pc (board m f)) (A.stored_to own p o v a pc (board m g))
       go (Memory i) e = (refl, record { mem = refl; row = r; long = l })
-      go (Fuse k) e = store-in-row k (owns own k) (placed_fuse _ a _ k e) refl
+      go (Fuse k) e = store_in_row k (owns own k) (placed_fuse _ a _ k e) refl
       go Misaligned e = (refl, still)
       go Outside e = (refl, still)
   act_alike (Ends why) = (refl, still)
@@ -105,25 +105,25 @@ pub record Alike (own : ℕ) (v w : World) : Type 0 where
   pub right : w.masks.own ≡ own
   pub peers : Peers own v.board w.board
 
-done-alike : {own : ℕ} {v w : World} → Alike own v w → Likewise own (step_done v) (step_done w)
+done_alike : {own : ℕ} {v w : World} → Alike own v w → Likewise own (step_done v) (step_done w)
 unfolding asked
-done-alike {own} {v} {w} a =
+done_alike {own} {v} {w} a =
     let e : asked v ≡ asked w =
     ap₂ (λ (s : State) m. cond (ltb s.count (2 ^ 64 - 1)) (act_at s.pc s.x m) (Ends (nowhere S.CountFull))) a.st a.peers.mem in
     subst (λ (o : A.Done × A.Done). Likewise own o.0 o.1)
     (λ j. (performed (sym a.left j) (asked v) v.board, performed (sym a.right j) (e j) (board (a.peers.mem j) w.board.row)))
     (act_alike own v.board.mem v.board.row w.board.row a.peers.row a.peers.long (asked v))
 
-step-alike : {own : ℕ} {v w : World} → Alike own v w → Alike own (stepped v) (stepped w) × (completes v ≡ completes w)
+step_alike : {own : ℕ} {v w : World} → Alike own v w → Alike own (stepped v) (stepped w) × (completes v ≡ completes w)
 unfolding stepped
-step-alike {own} {v} {w} a = let t : paused v ≡ paused w = ap (λ (s : State). eqb s.stop 0) a.st in rw (← t) (go (paused v))
+step_alike {own} {v} {w} a = let t : paused v ≡ paused w = ap (λ (s : State). eqb s.stop 0) a.st in rw (← t) (go (paused v))
   where
     go : (b : Bool)
         → Alike own (cond b (after (step_done v) v) v) (cond b (after (step_done w) w) w) × ((b && goes_on (step_done v).answer) ≡ (b && goes_on (step_done w).answer))
-    go true = let d = done-alike a in (record { st = ap₂ applied d.0 a.st; left = a.left; right = a.right; peers = d.1 }, ap goes_on d.0)
+    go true = let d = done_alike a in (record { st = ap₂ applied d.0 a.st; left = a.left; right = a.right; peers = d.1 }, ap goes_on d.0)
     go false = (a, refl)
 
-pub run-alike : (n : ℕ) {own : ℕ} {v w : World} → Alike own v w → Alike own (ran n v) (ran n w) × (retired n v ≡ retired n w)
+pub run_alike : (n : ℕ) {own : ℕ} {v w : World} → Alike own v w → Alike own (ran n v) (ran n w) × (retired n v ≡ retired n w)
 unfolding ran retired
-run-alike zero a = (a, refl)
-run-alike (suc n) a = let s = step-alike a in let i = run-alike n s.0 in (i.0, ap₂ (λ b k. flag b + k) s.1 i.1)
+run_alike zero a = (a, refl)
+run_alike (suc n) a = let s = step_alike a in let i = run_alike n s.0 in (i.0, ap₂ (λ b k. flag b + k) s.1 i.1)

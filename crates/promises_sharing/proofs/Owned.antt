@@ -27,7 +27,7 @@ use Rattle.execute.specs.Execution.{act_of, performed}
 use Rattle.execute.proofs.Acts.{EndsBare, ends_bare}
 use Rattle.fetch.proofs.Laws.{FailsBy, fetch_fails}
 use Rattle.engine.specs.Steps.{World, asked, applied, paused, stepped}
-use Rattle.engine.proofs.Walk.{by-asked}
+use Rattle.engine.proofs.Walk.{by_asked}
 
 -- ---- what is asked for ends with no 11
 
@@ -44,13 +44,13 @@ bare_other (Stores o v a pc) b = tt
 bare_other (Ends why) (inl e) = rw e (λ n. omega arith)
 bare_other (Ends why) (inr e) = rw e (λ n. omega arith)
 
-fails-other : (pc : ℕ) (m : List ℕ) (why : Cause) → FailsBy pc m why → OtherEnd (Ends why)
-fails-other pc m why (inl e) = rw e (λ n. omega arith)
-fails-other pc m why (inr e) = rw e (λ n. omega arith)
+fails_other : (pc : ℕ) (m : List ℕ) (why : Cause) → FailsBy pc m why → OtherEnd (Ends why)
+fails_other pc m why (inl e) = rw e (λ n. omega arith)
+fails_other pc m why (inr e) = rw e (λ n. omega arith)
 
 asked-other : (w : World) → OtherEnd (asked w)
 asked-other w =
-    by-asked w OtherEnd (λ n. omega arith) (λ why e. fails-other w.st.pc w.board.mem why (fetch_fails w.st.pc w.board.mem e))
+    by_asked w OtherEnd (λ n. omega arith) (λ why e. fails_other w.st.pc w.board.mem why (fetch_fails w.st.pc w.board.mem e))
     (λ i len room e. bare_other (act_of i _ w.st.pc w.st.x) (ends_bare i _ w.st.pc w.st.x))
 
 -- ---- exactly
@@ -62,11 +62,11 @@ There b (Loads o rd a pc) k = load_place o a b ≡ Fuse k
 There b (Stores o v a pc) k = store_place o a b ≡ Fuse k
 There b (Ends why) k = ⊥
 
-pub there-below : (b : Board) (a : Act) (k : ℕ) → There b a k → k < 64
-there-below b (Sets rd v pc) k t = absurd t
-there-below b (Loads o rd a pc) k t = placed_fuse _ a _ k t
-there-below b (Stores o v a pc) k t = placed_fuse _ a _ k t
-there-below b (Ends why) k t = absurd t
+pub there_below : (b : Board) (a : Act) (k : ℕ) → There b a k → k < 64
+there_below b (Sets rd v pc) k t = absurd t
+there_below b (Loads o rd a pc) k t = placed_fuse _ a _ k t
+there_below b (Stores o v a pc) k t = placed_fuse _ a _ k t
+there_below b (Ends why) k t = absurd t
 
 module _ (own : ℕ) (b : Board) (s : State) (z : s.stop ≡ 0) where
   -- what is to be seen of the stop number n after an access at a place
@@ -76,27 +76,27 @@ module _ (own : ℕ) (b : Board) (s : State) (z : s.stop ≡ 0) where
   After Misaligned n = n ≡ 11 → ⊥
   After Outside n = n ≡ 11 → ⊥
 
-  after-exactly : (p : Place) (n : ℕ) → After p n → (n ≡ 11) ↔ ((k : ℕ) × (p ≡ Fuse k) × (owns own k ≡ false))
-  after-exactly (Memory i) n h = (λ e. absurd (h e), λ r. let q = r.1 in cc)
-  after-exactly (Fuse k) n h = (go (owns own k) refl, λ r. let q : Fuse k ≡ Fuse r.0 = r.1 in let j : k ≡ r.0 = cc in h.1 (rw j r.2))
+  after_exactly : (p : Place) (n : ℕ) → After p n → (n ≡ 11) ↔ ((k : ℕ) × (p ≡ Fuse k) × (owns own k ≡ false))
+  after_exactly (Memory i) n h = (λ e. absurd (h e), λ r. let q = r.1 in cc)
+  after_exactly (Fuse k) n h = (go (owns own k) refl, λ r. let q : Fuse k ≡ Fuse r.0 = r.1 in let j : k ≡ r.0 = cc in h.1 (rw j r.2))
     where
       go : (mine : Bool) → owns own k ≡ mine → n ≡ 11 → (j : ℕ) × (Fuse k ≡ Fuse j) × (owns own j ≡ false)
       go true e t = absurd (h.0 e t)
       go false e t = (k, refl, e)
-  after-exactly Misaligned n h = (λ e. absurd (h e), λ r. let q = r.1 in cc)
-  after-exactly Outside n h = (λ e. absurd (h e), λ r. let q = r.1 in cc)
+  after_exactly Misaligned n h = (λ e. absurd (h e), λ r. let q = r.1 in cc)
+  after_exactly Outside n h = (λ e. absurd (h e), λ r. let q = r.1 in cc)
 
   act_exactly : (a : Act) → OtherEnd a → ((applied (performed own a b).answer s).stop ≡ 11) ↔ ((k : ℕ) × There b a k × (owns own k ≡ false))
   unfolding performed loaded_from loaded_from_row stored_to stored_in_row applied
   act_exactly (Sets rd v pc) h = (λ e. absurd (omega (arith, z)), λ r. absurd r.1)
-  act_exactly (Loads o rd a pc) h = after-exactly (load_place o a b) _ (go (load_place o a b))
+  act_exactly (Loads o rd a pc) h = after_exactly (load_place o a b) _ (go (load_place o a b))
     where
       go : (p : Place) → After p (applied (loaded_from own p o rd a pc b) s).stop
       go (Memory i) = λ e. omega (arith, z)
       go (Fuse k) = (λ e. rw e (λ n. omega (arith, z)), λ e. rw e)
       go Misaligned = λ e. omega arith
       go Outside = λ e. omega arith
-  act_exactly (Stores o v a pc) h = after-exactly (store_place o a b) _ (go (store_place o a b))
+  act_exactly (Stores o v a pc) h = after_exactly (store_place o a b) _ (go (store_place o a b))
     where
       stored : (t : Stored) → (applied (of_stored t a pc) s).stop ≡ 11 → ⊥
       stored F.Done n = omega (arith, z)

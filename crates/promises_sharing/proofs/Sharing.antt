@@ -28,9 +28,9 @@ use Rattle.engine.specs.Steps.{World, masked, world, asked, step_done, applied, 
 use Rattle.engine.proofs.Kept.{Runnable, runnable_ran}
 use Rattle.engine.proofs.Laws.{masks-ran, step_stopped}
 use Rattle.machine.specs.Entries.{stepped_to, no_step, step_given, ran_to, no_run, run_given}
-use Rattle.machine.proofs.Entries.{one-step}
+use Rattle.machine.proofs.Entries.{one_step}
 use Rattle.records.specs.Records.{record_of}
-use Rattle.records.proofs.Records.{length-record, bytes_fit}
+use Rattle.records.proofs.Records.{length_record, bytes_fit}
 use Rattle.slots.specs.Slots.{slot_at, slot_set}
 use Rattle.slots.proofs.Slots.{there-fits, take-before, drop-after, slot-bytes, ReadsWell, reads_well}
 use Rattle.resume.specs.declared.Resumed.TheVariants as A
@@ -41,13 +41,13 @@ use Rattle.promises.proofs.Places.{fuse_exactly}
 use Rattle.promises_sharing.specs.Sharing.{Mine, Foreign, Agree, BitByBit, OneBit, AllOwned, Reaches, NotOwnedExactly, OnlyStopAdded, NoMasksNoStop, NoMasksNoRefusal, OthersKept, EntriesKeepOthers, OtherSlotsKept, Isolated, StepIsolated, RunIsolated, SlotRunIsolated}
 use Rattle.promises_sharing.proofs.Agreeing.{agree_refl}
 use Rattle.promises_sharing.proofs.Spared.{run_spares, decided-lent, checked-long, entry_spares}
-use Rattle.promises_sharing.proofs.Alike.{Peers, Alike, run-alike}
-use Rattle.promises_sharing.proofs.Owned.{There, there-below, act_owned, stops_unowned}
+use Rattle.promises_sharing.proofs.Alike.{Peers, Alike, run_alike}
+use Rattle.promises_sharing.proofs.Owned.{There, there_below, act_owned, stops_unowned}
 
 -- ---- whose a word is
 
-pub bit-by-bit : BitByBit
-bit-by-bit m d h = (let z : (2 * m + d) % 2 ≡ d = omega arith in rw (div-one (2 * m + d), z), above)
+pub bit_by_bit : BitByBit
+bit_by_bit m d h = (let z : (2 * m + d) % 2 ≡ d = omega arith in rw (div-one (2 * m + d), z), above)
   where
     above : (k : ℕ) → owns (2 * m + d) (suc k) ≡ owns m k
     above k =
@@ -85,7 +85,7 @@ step_unmasked w e ne n = go (paused w) refl
     go : (b : Bool) → paused w ≡ b → ⊥
     go true p =
         let r = (stops_unowned w p).0 n in
-        holds false (sym r.2 ∙ ap (λ own. owns own r.0) e ∙ all_owned r.0 (there-below w.board (asked w) r.0 r.1))
+        holds false (sym r.2 ∙ ap (λ own. owns own r.0) e ∙ all_owned r.0 (there_below w.board (asked w) r.0 r.1))
     go false p = ne (ap (λ (v : World). v.st.stop) (sym (step_stopped w (eqb-false _ _ p))) ∙ n)
 
 run_unmasked : (n : ℕ) (w : World) → w.masks.own ≡ all_words → (w.st.stop ≡ 11 → ⊥) → (ran n w).st.stop ≡ 11 → ⊥
@@ -93,8 +93,8 @@ unfolding ran
 run_unmasked zero w e ne = ne
 run_unmasked (suc n) w e ne = run_unmasked n (stepped w) ((λ j. (masks-ran 1 w j).own) ∙ e) (step_unmasked w e ne)
 
-pub no-masks-no-stop : NoMasksNoStop
-no-masks-no-stop n s b = run_unmasked n (world s b) refl
+pub no_masks_no_stop : NoMasksNoStop
+no_masks_no_stop n s b = run_unmasked n (world s b) refl
 
 unshared : Shared no_masks → ⊥
 unshared s = let e : 0 / 2 ^ s.0 % 2 ≡ 1 = eqb-true _ _ s.2 in omega (arith, div-le_self 0 (2 ^ s.0))
@@ -112,8 +112,8 @@ state_unmasked s r = past 15 tt (past 14 tt (past 5 tt r))
 read_unmasked : (k : ℕ) (slots : List ℕ) → read_rows k slots 16 → ⊥
 read_unmasked k slots r = past 15 tt (past 14 tt (past 5 tt (past 4 tt r)))
 
-pub no-masks-no-refusal : NoMasksNoRefusal
-no-masks-no-refusal = (
+pub no_masks_no_refusal : NoMasksNoRefusal
+no_masks_no_refusal = (
   λ s b e. state_unmasked s (start_unmasked b (state_rows s) ((step_refuses (world s b) 16).0 e)),
   λ n s b e. state_unmasked s (start_unmasked b (state_rows s) ((run_refuses n (world s b) 16).0 e)),
   λ n k b slots e. read_unmasked k slots (start_unmasked b (read_rows k slots) ((resume_refuses n k (bench b slots) 16).0 e)),
@@ -136,8 +136,8 @@ same_step w e = go (paused w)
     go true = (ap (λ (d : Done). applied d.answer w.st) e, ap (λ (d : Done). d.lent) e)
     go false = (refl, refl)
 
-pub only-stop-added : OnlyStopAdded
-only-stop-added w ne = go (paused w) refl
+pub only_stop_added : OnlyStopAdded
+only_stop_added w ne = go (paused w) refl
   where
     mine : paused w ≡ true → (k : ℕ) → There w.board (asked w) k → owns w.masks.own k ≡ true
     mine p k t = by (owns w.masks.own k) refl
@@ -148,7 +148,7 @@ only-stop-added w ne = go (paused w) refl
 
     go : (b : Bool) → paused w ≡ b
         → ((stepped w).st ≡ (stepped (world w.st w.board)).st) × ((stepped w).board ≡ (stepped (world w.st w.board)).board)
-    go true p = same_step w (act_owned w.masks.own w.board (asked w) (λ k t. (mine p k t, all_owned k (there-below w.board (asked w) k t))))
+    go true p = same_step w (act_owned w.masks.own w.board (asked w) (λ k t. (mine p k t, all_owned k (there_below w.board (asked w) k t))))
     go false p =
         let h : w.st.stop ≡ 0 → ⊥ = eqb-false _ _ p in
         let v = step_stopped w h in
@@ -157,12 +157,12 @@ only-stop-added w ne = go (paused w) refl
 
 -- ---- words that are not its own
 
-pub others-kept : OthersKept
-others-kept n w l = (run_spares n w l).others
+pub others_kept : OthersKept
+others_kept n w l = (run_spares n w l).others
 
-pub entries-keep-others : EntriesKeepOthers
-entries-keep-others = (
-  λ w. subst (λ (b : Board). Agree (Foreign w.masks.own) b.row w.board.row) (sym (one-step w).2) (entry_spares 1 w).others,
+pub entries_keep_others : EntriesKeepOthers
+entries_keep_others = (
+  λ w. subst (λ (b : Board). Agree (Foreign w.masks.own) b.row w.board.row) (sym (one_step w).2) (entry_spares 1 w).others,
   λ n w. (entry_spares n w).others,
   λ n k h.
       decided-lent (λ (l : Bench). Agree (Foreign h.masks.own) l.board.row h.board.row) (resume_checked k h) (resume_given n k h) A.Refused h
@@ -170,8 +170,8 @@ entries-keep-others = (
 )
 
 -- the record that is put back has 144 bytes
-pub other-slots-kept : OtherSlotsKept
-other-slots-kept n k h f sb =
+pub other_slots_kept : OtherSlotsKept
+other_slots_kept n k h f sb =
     decided-lent (λ (l : Bench). Beside l.slots) (resume_checked k h) (resume_given n k h) A.Refused h accepted (refl, refl)
   where
     Beside : List ℕ → Type 0
@@ -184,29 +184,29 @@ other-slots-kept n k h f sb =
         let w : World = slot_world k h in
         let g : Runnable w = ((bytes_fit (slot_at k h.slots) (slot-bytes k h.slots sb), r.formed), (f, l.0), l.1) in
         let s : State = (ran n w).st in
-        let long = length-record s (runnable_ran n w g).0.0.x_length in
+        let long = length_record s (runnable_ran n w g).0.0.x_length in
         let there = there-fits k h.slots r.there in
         (take-before k (record_of s) h.slots long there, drop-after k (record_of s) h.slots long there)
 
 -- ---- what one recipe gets back
 -- one state and memory, on rows that agree on the own words
-on-rows : (own p q : ℕ) (s : State) (m f g : List ℕ) → length f ≡ 512 → Agree (Mine own) f g
+on_rows : (own p q : ℕ) (s : State) (m f g : List ℕ) → length f ≡ 512 → Agree (Mine own) f g
     → Alike own (masked (masks own p) s (board m f)) (masked (masks own q) s (board m g))
-on-rows own p q s m f g l e = record { st = refl; left = refl; right = refl; peers = record { mem = refl; row = e; long = l } }
+on_rows own p q s m f g l e = record { st = refl; left = refl; right = refl; peers = record { mem = refl; row = e; long = l } }
 
 pub isolated : Isolated
-isolated n own p q s m f g l e = let r = run-alike n (on-rows own p q s m f g l e) in (r.0.st, r.0.peers.mem, r.0.peers.row, r.1)
+isolated n own p q s m f g l e = let r = run_alike n (on_rows own p q s m f g l e) in (r.0.st, r.0.peers.mem, r.0.peers.row, r.1)
 
 -- rows that pass check 3 are not told apart by the tests
 same_start : (m f g : List ℕ) (k : Masks) (rest : Check) → Row f → Row g → start_checked (board m f) k rest ≡ start_checked (board m g) k rest
 same_start m f g k rest p q = rw (eq-eqb _ 512 p.0, eq-eqb _ 512 q.0, p.1, q.1)
 
 -- two calls whose tests say the same answer the same and leave what is related by R, where what they give is so, and what was lent
-decided-alike : {A B : Type 0} (R : B → B → Type 0) {c d : Check} (o p : Outcome A B) (refusal : Refusal → A) (x y : B) → c ≡ d
+decided_alike : {A B : Type 0} (R : B → B → Type 0) {c d : Check} (o p : Outcome A B) (refusal : Refusal → A) (x y : B) → c ≡ d
     → (o.answer ≡ p.answer) × R o.lent p.lent → R x y
     → ((decided c o refusal x).answer ≡ (decided d p refusal y).answer) × R (decided c o refusal x).lent (decided d p refusal y).lent
 unfolding decided
-decided-alike R {c} {d} o p refusal x y e h k = rw (← e) (go c)
+decided_alike R {c} {d} o p refusal x y e h k = rw (← e) (go c)
   where
     go : (t : Check) → ((decided t o refusal x).answer ≡ (decided t p refusal y).answer) × R (decided t o refusal x).lent (decided t p refusal y).lent
     go Passed = h
@@ -218,9 +218,9 @@ unfolding ran
 step_isolated k s m f g p q e =
     let v : World = masked k s (board m f) in
     let w : World = masked k s (board m g) in
-    let a = on-rows k.own k.other k.other s m f g p.0 e in
-    let r = run-alike 1 a in
-    let t = decided-alike (Peers k.own) (step_given v) (step_given w) no_step v.board w.board (same_start m f g k _ p q)
+    let a = on_rows k.own k.other k.other s m f g p.0 e in
+    let r = run_alike 1 a in
+    let t = decided_alike (Peers k.own) (step_given v) (step_given w) no_step v.board w.board (same_start m f g k _ p q)
     (ap stepped_to r.0.st, r.0.peers) a.peers in
     (t.0, t.1.mem, t.1.row)
 
@@ -228,9 +228,9 @@ pub run_isolated : RunIsolated
 run_isolated n k s m f g p q e =
     let v : World = masked k s (board m f) in
     let w : World = masked k s (board m g) in
-    let a = on-rows k.own k.other k.other s m f g p.0 e in
-    let r = run-alike n a in
-    let t = decided-alike (Peers k.own) (run_given n v) (run_given n w) no_run v.board w.board (same_start m f g k _ p q)
+    let a = on_rows k.own k.other k.other s m f g p.0 e in
+    let r = run_alike n a in
+    let t = decided_alike (Peers k.own) (run_given n v) (run_given n w) no_run v.board w.board (same_start m f g k _ p q)
     (ap₂ ran_to r.0.st r.1, r.0.peers) a.peers in
     (t.0, t.1.mem, t.1.row)
 
@@ -238,8 +238,8 @@ pub slot_run_isolated : SlotRunIsolated
 slot_run_isolated n i k m f g slots p q e =
     let h : Bench = shared_bench k (board m f) slots in
     let j : Bench = shared_bench k (board m g) slots in
-    let a = on-rows k.own k.other k.other (slot_world i h).st m f g p.0 e in
-    let r = run-alike n a in
-    let t = decided-alike (λ (b c : Bench). (b.slots ≡ c.slots) × Peers k.own b.board c.board) (resume_given n i h) (resume_given n i j) A.Refused h j
+    let a = on_rows k.own k.other k.other (slot_world i h).st m f g p.0 e in
+    let r = run_alike n a in
+    let t = decided_alike (λ (b c : Bench). (b.slots ≡ c.slots) × Peers k.own b.board c.board) (resume_given n i h) (resume_given n i j) A.Refused h j
     (same_start m f g k _ p q) (ap A.Retired r.1, (ap (λ s. slot_set i (record_of s) slots) r.0.st, r.0.peers)) (refl, a.peers) in
     (t.0, t.1.1.mem, t.1.0, t.1.1.row)

@@ -11,18 +11,18 @@ use Rattle.answers.specs.declared.Check.TheVariants.{Passed, Refused}
 use Rattle.word.specs.Bounds.{AllBelow}
 use Rattle.word.proofs.Bools.{holds}
 use Rattle.fuses.specs.Row.{Row, owns}
-use Rattle.fuses.proofs.Burning.{row-burnt, burnt-below}
+use Rattle.fuses.proofs.Burning.{row-burnt, burnt_below}
 use Rattle.boards.specs.Boards.{Board, start_checked, Masks}
 use Rattle.boards.proofs.Boards.{start_accepted}
 use Rattle.access.specs.Accesses.{Done}
 use Rattle.execute.specs.declared.Act.{Act}
-use Rattle.execute.proofs.Acts.{Comes, sets, loads, into-memory, into-row, zero-into-row, stops}
+use Rattle.execute.proofs.Acts.{Comes, sets, loads, into_memory, into_row, zero_into_row, stops}
 use Rattle.engine.specs.Steps.{World, checked, stepped, ran}
 use Rattle.engine.proofs.Walk.{walk}
 use Rattle.engine.proofs.Laws.{masks-ran}
 use Rattle.machine.specs.Entries.{run_given, no_run, run_entry}
 use Rattle.promises_sharing.specs.Sharing.{Foreign, Agree}
-use Rattle.promises_sharing.proofs.Agreeing.{agree_refl, agree_trans, agree_at, burnt-beside}
+use Rattle.promises_sharing.proofs.Agreeing.{agree_refl, agree_trans, agree_at, burnt_beside}
 
 -- ---- steps
 
@@ -45,13 +45,13 @@ spares_at h s = record { others = agree_at h s.others; bytes = s.bytes; sound = 
 comes_spares : {own : ℕ} {b : Board} {a : Act} {d : Done} → length b.row ≡ 512 → Comes own b a d → Spares (Foreign own) b.row d.lent.row
 comes_spares {own} {b} l (sets rd v pc) = spares_all (Foreign own) b.row
 comes_spares {own} {b} l (loads o rd a pc v h) = spares_all (Foreign own) b.row
-comes_spares {own} {b} l (into-memory o v a pc i e h) = spares_all (Foreign own) b.row
-comes_spares {own} {b} l (into-row o v a pc k e h mine z ne) = record {
-  others = agree_at (λ i q s. let foreign : owns own k ≡ false = rw s at q in holds false (sym foreign ∙ mine)) (burnt-beside k v h b.row l);
-  bytes = burnt-below k v b.row;
+comes_spares {own} {b} l (into_memory o v a pc i e h) = spares_all (Foreign own) b.row
+comes_spares {own} {b} l (into_row o v a pc k e h mine z ne) = record {
+  others = agree_at (λ i q s. let foreign : owns own k ≡ false = rw s at q in holds false (sym foreign ∙ mine)) (burnt_beside k v h b.row l);
+  bytes = burnt_below k v b.row;
   sound = row-burnt k v b.row h ne;
 }
-comes_spares {own} {b} l (zero-into-row o v a pc k e z) = spares_all (Foreign own) b.row
+comes_spares {own} {b} l (zero_into_row o v a pc k e z) = spares_all (Foreign own) b.row
 comes_spares {own} {b} l (stops a why by) = spares_all (Foreign own) b.row
 
 step_spares : (w : World) → length w.board.row ≡ 512 → Spares (Foreign w.masks.own) w.board.row (stepped w).board.row

@@ -19,48 +19,48 @@ use Rattle.slots.specs.Slots.{slot_there}
 use Rattle.promises.specs.Burning.{Start, begun, row_after}
 use Rattle.promises.specs.Cuts.{Piece, SlotsThere, total, manual}
 use Rattle.promises.proofs.Refusals.{accepted_passes}
-use Rattle.promises.proofs.Cuts.{left_by_lem, reads-back}
+use Rattle.promises.proofs.Cuts.{left_by_lem, reads_back}
 use Rattle.promises_sharing.specs.Sharing.{Mine, Foreign, Agree}
 use Rattle.promises_sharing.specs.Turns.{Apart, SwappedApart, Turn, pieces, AllApart, TurnsApart, on_row, turn_start, in_turns, turn_answers, CutInTurns, AllSwapped, TurnsSwapped, CutBesideTheOther, Move, first, second, MovesThere, moved, both, firsts, seconds, SideBySide}
 use Rattle.promises_sharing.proofs.Agreeing.{agree_refl, agree_trans, agree_at}
-use Rattle.promises_sharing.proofs.Alike.{Alike, run-alike}
+use Rattle.promises_sharing.proofs.Alike.{Alike, run_alike}
 use Rattle.promises_sharing.proofs.Spared.{Spares, spares_all, spares_then, spares_at, run_spares, entry_spares}
-use Rattle.promises_sharing.proofs.Sharing.{others-kept}
+use Rattle.promises_sharing.proofs.Sharing.{others_kept}
 
 -- ---- masks
 
-no-common : (a b : ℕ) → ((k : ℕ) → owns a k ≡ true → owns b k ≡ true → ⊥) → Apart a b
-no-common a b f k e = go (owns b k) refl
+no_common : (a b : ℕ) → ((k : ℕ) → owns a k ≡ true → owns b k ≡ true → ⊥) → Apart a b
+no_common a b f k e = go (owns b k) refl
   where
     go : (c : Bool) → owns b k ≡ c → c ≡ false
     go true t = absurd (f k e t)
     go false t = refl
 
-pub swapped-apart : SwappedApart
-swapped-apart m f = no-common m.other m.own (λ k e t. f (k, t, e))
+pub swapped_apart : SwappedApart
+swapped_apart m f = no_common m.other m.own (λ k e t. f (k, t, e))
 
-apart-back : (a b : ℕ) → Apart a b → Apart b a
-apart-back a b h = no-common b a (λ k e t. holds false (sym (h k t) ∙ e))
+apart_back : (a b : ℕ) → Apart a b → Apart b a
+apart_back a b h = no_common b a (λ k e t. holds false (sym (h k t) ∙ e))
 
 -- ---- the other's runs
 
 -- where all that is foreign to the one mask stays, so do the words of a mask apart from it
 theirs : (a own : ℕ) {f g : List ℕ} → Apart a own → Spares (Foreign a) f g → Spares (Mine own) f g
-theirs a own h s = spares_at (λ i q. apart-back a own h (i / 8) q) s
+theirs a own h s = spares_at (λ i q. apart_back a own h (i / 8) q) s
 
-others-spare : (own : ℕ) (es : List Start) (f : List ℕ) → AllApart own es → Spares (Mine own) f (row_after es f)
+others_spare : (own : ℕ) (es : List Start) (f : List ℕ) → AllApart own es → Spares (Mine own) f (row_after es f)
 unfolding row_after AllApart
-others-spare own [] f a = spares_all (Mine own) f
-others-spare own (e ∷ es) f a =
-    spares_then (theirs e.masks.own own a.0 (entry_spares e.budget (begun e f))) (others-spare own es (run_entry e.budget (begun e f)).lent.row a.1)
+others_spare own [] f a = spares_all (Mine own) f
+others_spare own (e ∷ es) f a =
+    spares_then (theirs e.masks.own own a.0 (entry_spares e.budget (begun e f))) (others_spare own es (run_entry e.budget (begun e f)).lent.row a.1)
 
 -- ---- a world on another row
 
 runnable_on : (f : List ℕ) (w : World) → Runnable w → AllBelow (2 ^ 8) f → Row f → Runnable (on_row f w)
 runnable_on f w g b r = (g.0, (record { mem_bytes = g.1.0.mem_bytes; row_bytes = b }, record { short = g.1.1.short; row = r }), g.2)
 
-alike-on : {own : ℕ} {v w : World} (f : List ℕ) → Agree (Mine own) f v.board.row → Alike own v w → Alike own (on_row f v) w
-alike-on f e a = record {
+alike_on : {own : ℕ} {v w : World} (f : List ℕ) → Agree (Mine own) f v.board.row → Alike own v w → Alike own (on_row f v) w
+alike_on f e a = record {
   st = a.st;
   left = a.left;
   right = a.right;
@@ -73,9 +73,9 @@ itself w g = record { st = refl; left = refl; right = refl; peers = record { mem
 -- ---- pieces, with the other's runs between them
 
 -- u, which is v, goes in turns, and w alone
-answers-alike : (b : ℕ) {own : ℕ} {u v w : World} → u ≡ v → Runnable v → Alike own v w → of_ran (run_entry b u).answer ≡ given ((ran b w).st, retired b w)
-answers-alike b {own} {u} {v} e g a =
-    let r = run-alike b a in
+answers_alike : (b : ℕ) {own : ℕ} {u v w : World} → u ≡ v → Runnable v → Alike own v w → of_ran (run_entry b u).answer ≡ given ((ran b w).st, retired b w)
+answers_alike b {own} {u} {v} e g a =
+    let r = run_alike b a in
     ap (λ x. of_ran (run_entry b x).answer) e
     ∙ ap (λ o. of_ran o.answer) (run_accepted b v (runnable_passes v g))
     ∙ ap₂ (λ s n. given (s, n)) r.0.st r.1
@@ -84,16 +84,16 @@ turns-end : (b : ℕ) (ts : List Turn) {own : ℕ} {u v w : World} → u ≡ v �
     → Alike own (in_turns b ts u) (ran (total b (pieces ts)) w) × (turn_answers b ts u ≡ manual b (pieces ts) w)
 unfolding in_turns turn_answers pieces total manual SlotsThere TurnsApart
 turns-end b [] {own} {u} {v} {w} e g a s h =
-    (subst (λ x. Alike own x (ran b w)) (sym (left_by_lem b e g)) (run-alike b a).0, λ j. answers-alike b e g a j ∷ [])
+    (subst (λ x. Alike own x (ran b w)) (sym (left_by_lem b e g)) (run_alike b a).0, λ j. answers_alike b e g a j ∷ [])
 turns-end b (t ∷ ts) {own} {u} {v} {w} e g a s h =
     let x : World = ran b v in
     let good : Runnable x = runnable_ran b v g in
     let f : List ℕ = row_after t.others x.board.row in
-    let o = others-spare own t.others x.board.row h.0 in
+    let o = others_spare own t.others x.board.row h.0 in
     let on : Runnable (on_row f x) = runnable_on f x good (o.bytes good.1.0.row_bytes) (o.sound good.1.1.row) in
-    let i = turns-end t.piece.budget ts (ap (turn_start t) (left_by_lem b e g) ∙ reads-back t.piece (on_row f x) on s.0) on
-    (alike-on f o.others (run-alike b a).0) s.1 h.1 in
-    (subst (λ y. Alike own (in_turns b (t ∷ ts) u) y) (sym (ran-add b (total t.piece.budget (pieces ts)) w)) i.0, λ j. answers-alike b e g a j ∷ i.1 j)
+    let i = turns-end t.piece.budget ts (ap (turn_start t) (left_by_lem b e g) ∙ reads_back t.piece (on_row f x) on s.0) on
+    (alike_on f o.others (run_alike b a).0) s.1 h.1 in
+    (subst (λ y. Alike own (in_turns b (t ∷ ts) u) y) (sym (ran-add b (total t.piece.budget (pieces ts)) w)) i.0, λ j. answers_alike b e g a j ∷ i.1 j)
 
 swapped-all : (m : Masks) → Apart m.other m.own → (es : List Start) → AllSwapped m es → AllApart m.own es
 unfolding AllSwapped AllApart
@@ -105,18 +105,18 @@ unfolding TurnsSwapped TurnsApart
 swapped-turns m h [] s = tt
 swapped-turns m h (t ∷ ts) s = (swapped-all m h t.others s.0, swapped-turns m h ts s.1)
 
-pub cut-in-turns : CutInTurns
-cut-in-turns b ts w z a s h =
+pub cut_in_turns : CutInTurns
+cut_in_turns b ts w z a s h =
     let g = passes_runnable w z (accepted_passes w a) in
     let r = turns-end b ts refl g (itself w g) s h in
     (r.0.st, r.0.peers.mem, r.0.peers.row, r.1)
 
 -- masks that are accepted share no bit
-pub cut-beside-the-other : CutBesideTheOther
-cut-beside-the-other b ts w z a s t =
+pub cut_beside_the_other : CutBesideTheOther
+cut_beside_the_other b ts w z a s t =
     let g = passes_runnable w z (accepted_passes w a) in
-    let h = swapped-apart w.masks (λ c. holds false (sym ((shares w.masks.own w.masks.other).1 c) ∙ g.2)) in
-    cut-in-turns b ts w z a s (swapped-turns w.masks h ts t)
+    let h = swapped_apart w.masks (λ c. holds false (sym ((shares w.masks.own w.masks.other).1 c) ∙ g.2)) in
+    cut_in_turns b ts w z a s (swapped-turns w.masks h ts t)
 
 -- ---- two recipes
 
@@ -124,7 +124,7 @@ cut-beside-the-other b ts w z a s t =
 record Beside (a b : ℕ) (f : List ℕ) (v w v' w' : World) : Type 0 where
   one : Alike a v v'
   two : Alike b w w'
-  one-runs : Runnable v
+  one_runs : Runnable v
   two_runs : Runnable w
   row : w.board.row ≡ v.board.row
   rest : Agree (λ i. Foreign a i × Foreign b i) v.board.row f
@@ -133,21 +133,21 @@ across : {a b : ℕ} {f : List ℕ} {v w v' w' : World} → Beside a b f v w v' 
 across {a} {b} {f} s = record {
   one = s.two;
   two = s.one;
-  one-runs = s.two_runs;
-  two_runs = s.one-runs;
+  one_runs = s.two_runs;
+  two_runs = s.one_runs;
   row = sym s.row;
   rest = subst (λ g. Agree (λ i. Foreign b i × Foreign a i) g f) (sym s.row) (agree_at (λ i q. (q.1, q.0)) s.rest);
 }
 
 -- a piece of the first
-beside-moved : (p : Piece) {a b : ℕ} {f : List ℕ} {v w v' w' : World} → Apart a b → slot_there p.slot p.slots ≡ true → Beside a b f v w v' w'
+beside_moved : (p : Piece) {a b : ℕ} {f : List ℕ} {v w v' w' : World} → Apart a b → slot_there p.slot p.slots ≡ true → Beside a b f v w v' w'
     → Beside a b f (moved p v) (on_row (moved p v).board.row w) (ran p.budget v') w'
-beside-moved p {a} {b} {f} {v} {w} {v'} {w'} h t s =
-    subst (λ x. Beside a b f x (on_row x.board.row w) (ran p.budget v') w') (sym (left_by_lem p.budget (reads-back p v s.one-runs t) s.one-runs))
+beside_moved p {a} {b} {f} {v} {w} {v'} {w'} h t s =
+    subst (λ x. Beside a b f x (on_row x.board.row w) (ran p.budget v') w') (sym (left_by_lem p.budget (reads_back p v s.one_runs t) s.one_runs))
     (record {
-      one = (run-alike p.budget s.one).0;
-      two = alike-on g (subst (Agree (Mine b) g) (sym s.row) (theirs a b h q).others) s.two;
-      one-runs = r;
+      one = (run_alike p.budget s.one).0;
+      two = alike_on g (subst (Agree (Mine b) g) (sym s.row) (theirs a b h q).others) s.two;
+      one_runs = r;
       two_runs = runnable_on g w s.two_runs r.1.0.row_bytes r.1.1.row;
       row = refl;
       rest = agree_trans (agree_at (λ i n. n.0) q.others) s.rest;
@@ -157,7 +157,7 @@ beside-moved p {a} {b} {f} {v} {w} {v'} {w'} h t s =
     g = (ran p.budget v).board.row
 
     r : Runnable (ran p.budget v)
-    r = runnable_ran p.budget v s.one-runs
+    r = runnable_ran p.budget v s.one_runs
 
     q : Spares (Foreign a) v.board.row g
     q = subst (λ own. Spares (Foreign own) v.board.row g) s.one.left (run_spares p.budget v s.one.peers.long)
@@ -170,12 +170,12 @@ beside (first p ∷ ms) {a} {b} {f} v w v' w' h t s =
     let x : World = moved p v in
     let y : World = on_row x.board.row w in
     subst (λ u. Beside a b f (both ms x y).0 (both ms x y).1 u (ran (seconds ms) w')) (sym (ran-add p.budget (firsts ms) v'))
-    (beside ms x y (ran p.budget v') w' h t.1 (beside-moved p h t.0 s))
+    (beside ms x y (ran p.budget v') w' h t.1 (beside_moved p h t.0 s))
 beside (second p ∷ ms) {a} {b} {f} v w v' w' h t s =
     let y : World = moved p w in
     let x : World = on_row y.board.row v in
     subst (λ u. Beside a b f (both ms x y).0 (both ms x y).1 (ran (firsts ms) v') u) (sym (ran-add p.budget (seconds ms) w'))
-    (beside ms x y v' (ran p.budget w') h t.1 (across (beside-moved p (apart-back a b h) t.0 (across s))))
+    (beside ms x y v' (ran p.budget w') h t.1 (across (beside_moved p (apart_back a b h) t.0 (across s))))
 
 pub side_by_side : SideBySide
 side_by_side ms v w zv zw av aw e h t =
@@ -188,11 +188,11 @@ side_by_side ms v w zv zw av aw e h t =
     gw = passes_runnable w zw (accepted_passes w aw)
 
     s : Beside v.masks.own w.masks.own v.board.row (both ms v w).0 (both ms v w).1 (ran (firsts ms) v) (ran (seconds ms) w)
-    s = beside ms v w v w h t (record { one = itself v gv; two = itself w gw; one-runs = gv; two_runs = gw; row = e; rest = agree_refl _ v.board.row })
+    s = beside ms v w v w h t (record { one = itself v gv; two = itself w gw; one_runs = gv; two_runs = gw; row = e; rest = agree_refl _ v.board.row })
 
     -- a byte of the first, of the second, or of neither, which no run changes
     go : (i : ℕ) (c d : Bool) → owns v.masks.own (i / 8) ≡ c → owns w.masks.own (i / 8) ≡ d
         → get_or (both ms v w).0.board.row i 0 ≡ cond c (get_or (ran (firsts ms) v).board.row i 0) (get_or (ran (seconds ms) w).board.row i 0)
     go i true d p q = s.one.peers.row.same i p
     go i false true p q = ap (λ g. get_or g i 0) (sym s.row) ∙ s.two.peers.row.same i q
-    go i false false p q = s.rest.same i (p, q) ∙ ap (λ g. get_or g i 0) (sym e) ∙ sym ((others-kept (seconds ms) w gw.1.1.row.0).same i q)
+    go i false false p q = s.rest.same i (p, q) ∙ ap (λ g. get_or g i 0) (sym e) ∙ sym ((others_kept (seconds ms) w gw.1.1.row.0).same i q)

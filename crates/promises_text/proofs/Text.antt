@@ -7,8 +7,8 @@ use lib.ListN.{length, drop, length-append, length-drop}
 use lib.Seq.{drop_at}
 use Rattle.answers.specs.declared.Refusal.TheVariants as R
 use Rattle.answers.specs.declared.Check.TheVariants.{Passed}
-use Rattle.answers.proofs.Order.{iff_same, no_rows, then-row}
-use Rattle.answers.proofs.Entries.{exactly, keeps-lent}
+use Rattle.answers.proofs.Order.{iff_same, no_rows, then_row}
+use Rattle.answers.proofs.Entries.{exactly, keeps_lent}
 use Rattle.isa.specs.Registers.{reg}
 use Rattle.isa.specs.Decoding.{decoded}
 use Rattle.isa.specs.Rvc.{expanded}
@@ -16,13 +16,13 @@ use Rattle.isa.specs.Encoding.{in_range}
 use Rattle.text.specs.Text.{text_of, short_text_of, operands_of}
 use Rattle.text.specs.Names.{names, name_at}
 use Rattle.text.proofs.Lengths as Lengths
-use Rattle.text.proofs.ShortLengths.{short-longest}
+use Rattle.text.proofs.ShortLengths.{short_longest}
 use Rattle.text.proofs.Distinct as Distinct
 use Rattle.disassembler.specs.declared.Written.TheVariants as W
 use Rattle.disassembler.specs.Entries.{of_written}
-use Rattle.disassembler.proofs.Outcomes.{fills, room_says, legal-says}
+use Rattle.disassembler.proofs.Outcomes.{fills, room_says, legal_says}
 use Rattle.ascii.specs.Numbers.{hex, signed_decimal, decimal, decimal_by}
-use Rattle.ascii.proofs.Numbers.{decimal-least}
+use Rattle.ascii.proofs.Numbers.{decimal_least}
 use Rattle.octets.specs.Bytes.{of_little_endian, load}
 use Rattle.octets.proofs.Bytes.{all-bytes}
 use Rattle.fetch.specs.Fetching.{fetched, fetched_with}
@@ -35,57 +35,57 @@ use Rattle.promises_text.specs.Text.{WordTextRefuses, HalfTextRefuses, TextRefus
 -- ---- refusals
 
 pub word_text_refuses : WordTextRefuses
-word_text_refuses w room = exactly of_written W.Refused (λ r. refl) _ _ room refl (room_says _ room (legal-says (decoded w)))
+word_text_refuses w room = exactly of_written W.Refused (λ r. refl) _ _ room refl (room_says _ room (legal_says (decoded w)))
 
 pub half_text_refuses : HalfTextRefuses
-half_text_refuses h room = exactly of_written W.Refused (λ r. refl) _ _ room refl (room_says _ room (legal-says (expanded h)))
+half_text_refuses h room = exactly of_written W.Refused (λ r. refl) _ _ room refl (room_says _ room (legal_says (expanded h)))
 
 pub text_refuses : TextRefuses
-text_refuses i room = exactly of_written W.Refused (λ r. refl) _ _ room refl (room_says _ room (then-row (in_range i) R.Field Passed iff_same no_rows))
+text_refuses i room = exactly of_written W.Refused (λ r. refl) _ _ room refl (room_says _ room (then_row (in_range i) R.Field Passed iff_same no_rows))
 
-pub text-keeps : TextKeeps
-text-keeps room = (
-  λ w. keeps-lent of_written W.Refused (λ r. refl) _ _ room refl,
-  λ h. keeps-lent of_written W.Refused (λ r. refl) _ _ room refl,
-  λ i. keeps-lent of_written W.Refused (λ r. refl) _ _ room refl,
+pub text_keeps : TextKeeps
+text_keeps room = (
+  λ w. keeps_lent of_written W.Refused (λ r. refl) _ _ room refl,
+  λ h. keeps_lent of_written W.Refused (λ r. refl) _ _ room refl,
+  λ i. keeps_lent of_written W.Refused (λ r. refl) _ _ room refl,
 )
 
 -- ---- the text
 
-pub word-text : WordText
-word-text w i room h e = rw (legal-is (decoded w) i e, fills room h (text_of i)) (refl, refl)
+pub word_text : WordText
+word_text w i room h e = rw (legal-is (decoded w) i e, fills room h (text_of i)) (refl, refl)
 
-pub half-text : HalfText
+pub half_text : HalfText
 unfolding short_text_of
-half-text h i room l e = rw (legal-is (expanded h) i e, fills room l (short_text_of i)) (refl, refl)
+half_text h i room l e = rw (legal-is (expanded h) i e, fills room l (short_text_of i)) (refl, refl)
 
-pub inst-text : InstText
-inst-text i room h e = rw (e, fills room h (text_of i)) (refl, refl)
+pub inst_text_lem : InstText
+inst_text_lem i room h e = rw (e, fills room h (text_of i)) (refl, refl)
 
 -- ---- lengths and distinct texts
 
 -- each bound is reached, as the digits of the operands add up
-pub text-fits : TextFits
+pub text_fits : TextFits
 unfolding in_range names name_at operands_of text_of signed_decimal
-text-fits = (
-  Lengths.text-fits,
+text_fits = (
+  Lengths.text_fits,
   refl,
-  omega (arith, Lengths.text-fits longest_text refl, Lengths.two_regs (name_at 20) (reg 31) (reg 31) (signed_decimal (2 ^ 32 - 2048)), decimal-least 1 31 (omega arith), decimal-least 3 2048 (omega arith)),
+  omega (arith, Lengths.text_fits longest_text refl, Lengths.two_regs (name_at 20) (reg 31) (reg 31) (signed_decimal (2 ^ 32 - 2048)), decimal_least 1 31 (omega arith), decimal_least 3 2048 (omega arith)),
 )
 
-pub short-text-fits : ShortTextFits
+pub short_text_fits : ShortTextFits
 unfolding expanded names name_at operands_of text_of short_text_of signed_decimal
-short-text-fits = (
-  λ h i e. short-longest h i (legal-is (expanded h) i e),
+short_text_fits = (
+  λ h i e. short_longest h i (legal-is (expanded h) i e),
   refl,
-  omega (arith, short-longest 0x1F81 longest_short_text refl, Lengths.two_regs (name_at 18) (reg 31) (reg 31) (signed_decimal (2 ^ 32 - 32)), decimal-least 1 31 (omega arith), decimal-least 1 32 (omega arith)),
+  omega (arith, short_longest 0x1F81 longest_short_text refl, Lengths.two_regs (name_at 18) (reg 31) (reg 31) (signed_decimal (2 ^ 32 - 32)), decimal_least 1 31 (omega arith), decimal_least 1 32 (omega arith)),
 )
 
 pub text_determines : TextDetermines
 text_determines = Distinct.text_determines
 
-pub short-is-not-long : ShortIsNotLong
-short-is-not-long = Distinct.short-is-not-long
+pub short_is_not_long : ShortIsNotLong
+short_is_not_long = Distinct.short_is_not_long
 
 -- ---- the listing
 
@@ -96,37 +96,37 @@ pages-rest image [] a = refl
 pages-rest image (room ∷ rooms) a =
     let p = page_of image room a in
     let rest = pages image rooms p.next in
-    Pages.page-then-rest image room a (length image) (omega arith)
+    Pages.page_then_rest image room a (length image) (omega arith)
     ∙ ap (λ (l : List ℕ). p.text ++ l) (pages-rest image rooms p.next)
     ∙ sym (append_assoc p.text rest.text (lines_from (length image) image rest.next))
 
-pub pages-are-listing : PagesAreListing
+pub pages_are_listing : PagesAreListing
 unfolding listing
-pages-are-listing image rooms h =
+pages_are_listing image rooms h =
     sym (pages-rest image rooms 0 ∙ ap (λ (l : List ℕ). (pages image rooms 0).text ++ l) (Pages.lines_end image (length image) _ h) ∙ append-nil _)
 
-pub page-moves : PageMoves
-page-moves = Pages.page-moves
+pub page_moves : PageMoves
+page_moves = Pages.page_moves
 
-pub page-fits : PageFits
-page-fits image room a h = Pages.page-fits image (all-bytes image h) room a
+pub page_fits : PageFits
+page_fits image room a h = Pages.page_fits image (all-bytes image h) room a
 
-pub page-keeps : PageKeeps
-page-keeps image a room h =
+pub page_keeps : PageKeeps
+page_keeps image a room h =
     let text = (page_of image (length room) a).text in
-    let fits = page-fits image (length room) a h in
+    let fits = page_fits image (length room) a h in
     (drop_at text (drop (length text) room) (length text) refl, simp (length-append, length-drop) (omega arith))
 
-pub empty-listing : EmptyListing
+pub empty_listing : EmptyListing
 unfolding listing lines_from
-empty-listing = refl
+empty_listing = refl
 
-pub long-listing : LongListing
+pub long_listing : LongListing
 unfolding listing
-long-listing image h =
+long_listing image h =
     let e : length image ≡ suc (length image - 1) = omega arith in
     ap (λ (n : ℕ). lines_from n image 0) e
-    ∙ Pages.lines-on image (length image - 1) 0 (omega arith)
+    ∙ Pages.lines_on image (length image - 1) 0 (omega arith)
     ∙ rw (line-none image 0 h, Pages.lines_end image (length image - 1) (length image) (omega arith))
 
 pub odd_listing : OddListing

@@ -60,15 +60,15 @@ prefix-short [] e h = absurd (omega arith)
 prefix-short (b ∷ []) e h = rw (eq-eqb b 99 e)
 prefix-short (b ∷ c ∷ l) e h = absurd (omega arith)
 
-pub prefix-one : (s : List ℕ) → get_or s 0 0 ≡ 99 → (get_or s 1 0 ≡ 58 → ⊥) → 1 ≡ prefix s
-prefix-one [] e n = absurd (omega arith)
-prefix-one (b ∷ []) e n = rw (eq-eqb b 99 e)
-prefix-one (b ∷ c ∷ l) e n = rw (eq-eqb b 99 e, ne_eqb c 58 n)
+pub prefix_one : (s : List ℕ) → get_or s 0 0 ≡ 99 → (get_or s 1 0 ≡ 58 → ⊥) → 1 ≡ prefix s
+prefix_one [] e n = absurd (omega arith)
+prefix_one (b ∷ []) e n = rw (eq-eqb b 99 e)
+prefix_one (b ∷ c ∷ l) e n = rw (eq-eqb b 99 e, ne_eqb c 58 n)
 
-pub prefix-two : (s : List ℕ) → get_or s 0 0 ≡ 99 → get_or s 1 0 ≡ 58 → 2 ≡ prefix s
-prefix-two [] e n = absurd (omega arith)
-prefix-two (b ∷ []) e n = absurd (omega arith)
-prefix-two (b ∷ c ∷ l) e n = rw (eq-eqb b 99 e, eq-eqb c 58 n)
+pub prefix_two : (s : List ℕ) → get_or s 0 0 ≡ 99 → get_or s 1 0 ≡ 58 → 2 ≡ prefix s
+prefix_two [] e n = absurd (omega arith)
+prefix_two (b ∷ []) e n = absurd (omega arith)
+prefix_two (b ∷ c ∷ l) e n = rw (eq-eqb b 99 e, eq-eqb c 58 n)
 
 -- ---- the first line
 
@@ -82,8 +82,8 @@ module _ (s : List ℕ) where
     unfolding first_line
     after-long o e = λ i. furthest (h i) (sym e i)
 
-    pub no-colon : (n : ℕ) → n ≡ prefix s → n < 2 → (q : ℕ) → q ≡ cond (ltb p n) n p → Unreadable q ≡ first_line s
-    no-colon n e l q z =
+    pub no_colon : (n : ℕ) → n ≡ prefix s → n < 2 → (q : ℕ) → q ≡ cond (ltb p n) n p → Unreadable q ≡ first_line s
+    no_colon n e l q z =
         ap Unreadable (z ∙ ap (λ (n : ℕ). cond (ltb p n) n p) e)
         ∙ after-long (Unreadable (prefix s)) (rw (ne_eqb (prefix s) 2 (λ t. omega arith)))
 
@@ -92,9 +92,9 @@ module _ (s : List ℕ) where
         ap (furthest (Unreadable p)) q ∙ after-long (among_from true 2 48 s) (rw (eq-eqb (prefix s) 2 (sym e ∙ t)))
 
 -- the reader's count of c: is at most the text
-pub prefix-most : (s : List ℕ) → (prefix s ≤ 2) × (prefix s ≤ length s)
-prefix-most [] = (omega arith, omega arith)
-prefix-most (b ∷ l) = go (eqb b 99) l
+pub prefix_most : (s : List ℕ) → (prefix s ≤ 2) × (prefix s ≤ length s)
+prefix_most [] = (omega arith, omega arith)
+prefix_most (b ∷ l) = go (eqb b 99) l
   where
     two : (t : Bool) (l : List ℕ) → (cond t 2 1 ≤ 2) × (cond t 2 1 ≤ suc (suc (length l)))
     two true l = (omega arith, omega arith)

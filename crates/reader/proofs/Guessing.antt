@@ -19,17 +19,17 @@ use Rattle.reader.specs.declared.Line.{Line}
 use Rattle.reader.specs.declared.Line.TheVariants.{Reads, Unreadable}
 use Rattle.reader.specs.Reading.{no_fields}
 use Rattle.reader.specs.Line.{taken_all, read_by, prefix, first_line, Same}
-use Rattle.reader.proofs.Choosing.{prefix-most}
-use Rattle.reader.proofs.Telling.{to_read, scanned, from-alike, short-alike, told}
+use Rattle.reader.proofs.Choosing.{prefix_most}
+use Rattle.reader.proofs.Telling.{to_read, scanned, from_alike, short_alike, told}
 
 module _ (s : List ℕ) (c : Bool) (k : ℕ) (known : k < 48) (n : ℕ) (x : Fields) where
   -- the text after a line tells the place after it
   same_place : (m m' : ℕ) (front l : List ℕ) → s ≡ front ++ l → m ≡ length front → l ≡ drop m' s → m' ≤ length s → m ≡ m'
   same_place m m' front l e p q h = omega (arith, ap length e, length-append front l, ap length q, length-drop m' s)
 
-  told-so : (m : ℕ) (l : List ℕ) (ws : List Word) → Went (shape c k) 0 s [] m l ws → n ≡ m → x ≡ taken_all k ws no_fields → (f : Line) → Same s f (S.reads c k ws l) → Reads c k x n ≡ f
-  told-so m l ws o p q (Unreadable m') t = absurd t
-  told-so m l ws o p q (Reads c' k' x' m') t =
+  told_so : (m : ℕ) (l : List ℕ) (ws : List Word) → Went (shape c k) 0 s [] m l ws → n ≡ m → x ≡ taken_all k ws no_fields → (f : Line) → Same s f (S.reads c k ws l) → Reads c k x n ≡ f
+  told_so m l ws o p q (Unreadable m') t = absurd t
+  told_so m l ws o p q (Reads c' k' x' m') t =
       let place : n ≡ m' = p ∙ same_place m m' o.front l o.split (omega (arith, o.place)) t.3 t.4 in
       λ i. Reads (sym t.0 i) (sym t.1 i) ((q ∙ sym t.2) i) (place i)
 
@@ -44,20 +44,20 @@ module _ (s : List ℕ) (c : Bool) (k : ℕ) (known : k < 48) (n : ℕ) (x : Fie
           let p : n ≡ m = cc in
           let q : x ≡ taken_all k ws no_fields = cc in
           let line : S.line_at s ≡ S.reads c k ws l = ap S.line_at o.split ∙ line_reads c k known o.line l ∙ ap (λ (ws : List Word). S.reads c k ws l) (sym o.more) in
-          told-so m l ws o p q (first_line s) (subst (Same s (first_line s)) line (told s))
+          told_so m l ws o p q (first_line s) (subst (Same s (first_line s)) line (told s))
 
 -- two bytes are before the line where all of c: is in front
-pub front-most : (s : List ℕ) (p : ℕ) → p ≡ prefix s → (bool_byte (eqb p 2) * 2 ≤ 2) × (bool_byte (eqb p 2) * 2 ≤ length s)
-front-most s p e = go (eqb p 2) refl
+pub front_most : (s : List ℕ) (p : ℕ) → p ≡ prefix s → (bool_byte (eqb p 2) * 2 ≤ 2) × (bool_byte (eqb p 2) * 2 ≤ length s)
+front_most s p e = go (eqb p 2) refl
   where
     go : (t : Bool) → eqb p 2 ≡ t → (bool_byte t * 2 ≤ 2) × (bool_byte t * 2 ≤ length s)
     go false q = (omega arith, omega arith)
-    go true q = (omega arith, omega (arith, eqb-true p 2 q, (prefix-most s).1))
+    go true q = (omega arith, omega (arith, eqb-true p 2 q, (prefix_most s).1))
 
 -- A GUESS that reads the line is right
 pub guessed : (s : List ℕ) (p : ℕ) → p ≡ prefix s → (k : ℕ) → k < 48 → (n : ℕ) (x : Fields) → At n x ≡ read_by (bool_byte (eqb p 2) * 2) s k → Reads (eqb p 2) k x n ≡ first_line s
 guessed s p e k known n x h = go (eqb p 2) (ap (λ (p : ℕ). eqb p 2) (sym e)) h
   where
     go : (t : Bool) → eqb (prefix s) 2 ≡ t → At n x ≡ read_by (bool_byte t * 2) s k → Reads t k x n ≡ first_line s
-    go false q h = by_shape s false k known n x (h ∙ from-alike k s 0)
-    go true q h = by_shape s true k known n x (h ∙ sym (ap (λ (t : Bool). cond t (read_by 2 s k) (Stuck (prefix s))) q) ∙ short-alike k s)
+    go false q h = by_shape s false k known n x (h ∙ from_alike k s 0)
+    go true q h = by_shape s true k known n x (h ∙ sym (ap (λ (t : Bool). cond t (read_by 2 s k) (Stuck (prefix s))) q) ∙ short_alike k s)

@@ -21,16 +21,16 @@ use Rattle.reader.specs.Reading.{put, fault, taken, taken_number, is_field, star
 -- ---- a byte
 
 module _ (s : List ℕ) (b at : ℕ) where
-  pub starts-past : length s ≤ at → false ≡ starts_with b (drop at s)
-  starts-past h = rw (drop_of_length-le s h)
+  pub starts_past : length s ≤ at → false ≡ starts_with b (drop at s)
+  starts_past h = rw (drop_of_length-le s h)
 
-  pub starts-here : at < length s → eqb (get_or s at 0) b ≡ starts_with b (drop at s)
-  starts-here h = rw (drop-cons s at 0 h)
+  pub starts_here : at < length s → eqb (get_or s at 0) b ≡ starts_with b (drop at s)
+  starts_here h = rw (drop-cons s at 0 h)
 
-  pub starts-within : starts_with b (drop at s) ≡ true → at < length s
-  starts-within e =
+  pub starts_within : starts_with b (drop at s) ≡ true → at < length s
+  starts_within e =
       ⊎_elim (λ (h : at < length s). h)
-      (λ (h : length s ≤ at). let z : false ≡ true = starts-past h ∙ e in absurd (subst T (sym z) tt))
+      (λ (h : length s ≤ at). let z : false ≡ true = starts_past h ∙ e in absurd (subst T (sym z) tt))
       (below at (length s))
 
 -- ---- which piece

@@ -33,10 +33,10 @@ abbrev pub to_read : ℕ → Scan → Read
 to_read k (at n l ws) = At n (taken_all k ws no_fields)
 to_read k (stuck n) = Stuck n
 
-taken-last : (k : ℕ) (ws : List Word) (w : Word) (x : Fields) → taken_all k (ws ++ (w ∷ [])) x ≡ taken k w (taken_all k ws x)
+taken_last : (k : ℕ) (ws : List Word) (w : Word) (x : Fields) → taken_all k (ws ++ (w ∷ [])) x ≡ taken k w (taken_all k ws x)
 unfolding taken_all
-taken-last k [] w x = refl
-taken-last k (v ∷ ws) w x = taken-last k ws w (taken k v x)
+taken_last k [] w x = refl
+taken_last k (v ∷ ws) w x = taken_last k ws w (taken k v x)
 
 abbrev mapped : List ℕ → List Piece
 mapped [] = []
@@ -51,11 +51,11 @@ module _ (k : ℕ) (s : List ℕ) (q : List ℕ) (ps : List Piece)
   stopped : (n : ℕ) → along k q s (Stuck n) ≡ to_read k (scan ps (stuck n))
   stopped n = along-stays k q s n ∙ sym (ap (to_read k) (stays ps n))
 
-  byte-alike : (b n : ℕ) (ws : List Word) (l : List ℕ) → drop n s ≡ l
+  byte_alike : (b n : ℕ) (ws : List Word) (l : List ℕ) → drop n s ≡ l
       → along k q s (over_piece k (byte b) l n (taken_all k ws no_fields)) ≡ to_read k (scan ps (over (byte b) n l ws))
   unfolding over_piece
-  byte-alike b n ws [] e = stopped n
-  byte-alike b n ws (c ∷ l) e = go (eqb c b)
+  byte_alike b n ws [] e = stopped n
+  byte_alike b n ws (c ∷ l) e = go (eqb c b)
     where
       go : (t : Bool) → along k q s (cond t (At (n + 1) (taken_all k ws no_fields)) (Stuck n)) ≡ to_read k (scan ps (cond t (at (suc n) l ws) (stuck n)))
       go true =
@@ -66,7 +66,7 @@ module _ (k : ℕ) (s : List ℕ) (q : List ℕ) (ps : List Piece)
   alike : (p : Piece) (n : ℕ) (ws : List Word)
       → along k q s (over_piece k p (drop n s) n (taken_all k ws no_fields)) ≡ to_read k (scan ps (over p n (drop n s) ws))
   unfolding over_piece
-  alike (byte b) n ws = byte-alike b n ws (drop n s) refl
+  alike (byte b) n ws = byte_alike b n ws (drop n s) refl
   alike (field f) n ws = go (ltb (minus f l) m)
     where
       l : List ℕ
@@ -81,36 +81,36 @@ module _ (k : ℕ) (s : List ℕ) (q : List ℕ) (ps : List Piece)
       go : (t : Bool) → along k q s (cond t (At (n + m) (taken k w (taken_all k ws no_fields))) (Stuck (n + m)))
           ≡ to_read k (scan ps (cond t (at (n + m) (drop m l) (ws ++ (w ∷ []))) (stuck (n + m))))
       go true =
-          ap (λ (x : Fields). along k q s (At (n + m) x)) (sym (taken-last k ws w no_fields)) ∙ more (n + m) (ws ++ (w ∷ []))
+          ap (λ (x : Fields). along k q s (At (n + m) x)) (sym (taken_last k ws w no_fields)) ∙ more (n + m) (ws ++ (w ∷ []))
           ∙ ap (λ (l : List ℕ). to_read k (scan ps (at (n + m) l (ws ++ (w ∷ []))))) (sym (drop-drop m n s))
       go false = stopped (n + m)
 
-reads-alike : (k : ℕ) (s q : List ℕ) (n : ℕ) (ws : List Word) → along k q s (At n (taken_all k ws no_fields)) ≡ to_read k (scan (mapped q) (at n (drop n s) ws))
+reads_alike : (k : ℕ) (s q : List ℕ) (n : ℕ) (ws : List Word) → along k q s (At n (taken_all k ws no_fields)) ≡ to_read k (scan (mapped q) (at n (drop n s) ws))
 unfolding along scan
-reads-alike k s [] n ws = refl
-reads-alike k s (b ∷ q) n ws = alike k s q (mapped q) (λ n ws. reads-alike k s q n ws) (piece_of b) n ws
+reads_alike k s [] n ws = refl
+reads_alike k s (b ∷ q) n ws = alike k s q (mapped q) (λ n ws. reads_alike k s q n ws) (piece_of b) n ws
 
 pieces-line : (t : List ℕ) → pieces t ≡ mapped (t ++ (10 ∷ []))
 pieces-line [] = refl
 pieces-line (b ∷ t) = ap (λ (q : List Piece). piece_of b ∷ q) (pieces-line t)
 
 -- from a place on, with no number yet
-pub from-alike : (k : ℕ) (s : List ℕ) (n : ℕ) → read_by n s k ≡ to_read k (scan (shape false k) (at n (drop n s) []))
+pub from_alike : (k : ℕ) (s : List ℕ) (n : ℕ) → read_by n s k ≡ to_read k (scan (shape false k) (at n (drop n s) []))
 unfolding shape sample_line taken_all
-from-alike k s n = reads-alike k s (sample_line k) n [] ∙ ap (λ (q : List Piece). to_read k (scan q (at n (drop n s) []))) (sym (pieces-line (text_of (sample k))))
+from_alike k s n = reads_alike k s (sample_line k) n [] ∙ ap (λ (q : List Piece). to_read k (scan q (at n (drop n s) []))) (sym (pieces-line (text_of (sample k))))
 
 -- with c: in front
-pub short-alike : (k : ℕ) (s : List ℕ) → cond (eqb (prefix s) 2) (read_by 2 s k) (Stuck (prefix s)) ≡ to_read k (scan (shape true k) (at 0 s []))
+pub short_alike : (k : ℕ) (s : List ℕ) → cond (eqb (prefix s) 2) (read_by 2 s k) (Stuck (prefix s)) ≡ to_read k (scan (shape true k) (at 0 s []))
 unfolding shape short_text_of scan
-short-alike k [] = sym (ap (to_read k) (stays (pieces (text_of (sample k))) 0))
-short-alike k (b ∷ l) = go (eqb b 99) l refl
+short_alike k [] = sym (ap (to_read k) (stays (pieces (text_of (sample k))) 0))
+short_alike k (b ∷ l) = go (eqb b 99) l refl
   where
     stopped : (n : ℕ) → Stuck n ≡ to_read k (scan (pieces (text_of (sample k))) (stuck n))
     stopped n = sym (ap (to_read k) (stays (pieces (text_of (sample k))) n))
 
     two : (c : ℕ) (m : List ℕ) → l ≡ c ∷ m → (t : Bool)
         → cond (eqb (cond t 2 1) 2) (read_by 2 (b ∷ l) k) (Stuck (cond t 2 1)) ≡ to_read k (scan (pieces (text_of (sample k))) (cond t (at 2 m []) (stuck 1)))
-    two c m e true = from-alike k (b ∷ l) 2 ∙ ap (λ (x : List ℕ). to_read k (scan (shape false k) (at 2 (drop 1 x) []))) e
+    two c m e true = from_alike k (b ∷ l) 2 ∙ ap (λ (x : List ℕ). to_read k (scan (shape false k) (at 2 (drop 1 x) []))) e
     two c m e false = stopped 1
 
     go : (t : Bool) (m : List ℕ) → l ≡ m
@@ -168,7 +168,7 @@ none-short n s e = go n
         ap S.unreadable (sym z)
 
     one : (k : ℕ) → S.line_of true k (scanned true k s) ≡ S.unreadable (prefix s)
-    one k = is_stuck k (scanned true k s) (sym (ap (λ (t : Bool). cond t (read_by 2 s k) (Stuck (prefix s))) e) ∙ short-alike k s)
+    one k = is_stuck k (scanned true k s) (sym (ap (λ (t : Bool). cond t (read_by 2 s k) (Stuck (prefix s))) e) ∙ short_alike k s)
 
     largest : (m p : ℕ) → m ≤ p → S.furthest (S.unreadable m) (S.unreadable p) ≡ S.unreadable p
     largest m p h = ⊎_elim (λ (l : m < p). rw (lt-ltb m p l)) (λ (l : p ≤ m). rw (le-ltb m p l) (let z : m ≡ p = omega arith in ap S.unreadable z)) (below m p)
@@ -182,8 +182,8 @@ pub told : (s : List ℕ) → Same s (first_line s) (S.line_at s)
 unfolding first_line
 told s =
     furthest-same s (among_from false 0 48 s) (cond (eqb (prefix s) 2) (among_from true 2 48 s) (Unreadable (prefix s))) (S.among false 48 s) (S.among true 48 s)
-    (among_same false 0 48 s (λ k. from-alike k s 0)) (go (eqb (prefix s) 2) refl)
+    (among_same false 0 48 s (λ k. from_alike k s 0)) (go (eqb (prefix s) 2) refl)
   where
     go : (t : Bool) → eqb (prefix s) 2 ≡ t → Same s (cond t (among_from true 2 48 s) (Unreadable (prefix s))) (S.among true 48 s)
-    go true e = among_same true 2 48 s (λ k. sym (ap (λ (t : Bool). cond t (read_by 2 s k) (Stuck (prefix s))) e) ∙ short-alike k s)
+    go true e = among_same true 2 48 s (λ k. sym (ap (λ (t : Bool). cond t (read_by 2 s k) (Stuck (prefix s))) e) ∙ short_alike k s)
     go false e = rw (none-short 47 s e)

@@ -5,7 +5,7 @@ use Prim.Native.Nat.{ℕ, ◌+◌, ◌*◌, ◌/◌, ◌%◌, ◌^◌, ◌<◌}
 use native.Mathlib.Nat.{mod-eq_of_lt, add_assoc, add-zero, zero-mul, zero-add}
 use native.Mathlib.Omega.{arith}
 use lib.Arith.{digits_lt}
-use Rattle.word.proofs.Scatter.{low-lt}
+use Rattle.word.proofs.Scatter.{low_lt}
 use lib.Pow.{pow_pos, pow-add, mod-pow-add, high, low}
 
 -- `put k n ds`: the k low bits of n, above the digits ds. `last k n`: the k low bits of n, at bit 0. `clear k`: k bits that are 0, at bit 0
@@ -43,16 +43,16 @@ sum_is a (put k n ds) =
     let x : ℕ = n % 2 ^ k * 2 ^ width ds in
     sum_is (a + x) ds ∙ add_assoc a x (value ds) ∙ ap (λ (y : ℕ). a + y) (sym (sum_is x ds))
 
-pub value-lt : (ds : Digits) → value ds < 2 ^ width ds
-value-lt (last k n) = low-lt n k
-value-lt (clear k) = pow_pos k
-value-lt (put k n ds) = rw (sum_is (n % 2 ^ k * 2 ^ width ds) ds, pow-add 2 k (width ds)) (digits_lt (low-lt n k) (value-lt ds))
+pub value_lt : (ds : Digits) → value ds < 2 ^ width ds
+value_lt (last k n) = low_lt n k
+value_lt (clear k) = pow_pos k
+value_lt (put k n ds) = rw (sum_is (n % 2 ^ k * 2 ^ width ds) ds, pow-add 2 k (width ds)) (digits_lt (low_lt n k) (value_lt ds))
 
 -- the digits' sum, with anything above it, has the digits
 pub had : (q : ℕ) (ds : Digits) → Has (q * 2 ^ width ds + value ds) ds
-had q (last k n) = low q k (low-lt n k)
+had q (last k n) = low q k (low_lt n k)
 had q (clear k) = low q k (pow_pos k)
-had q (put k n ds) = subst (λ (w : ℕ). Has w (put k n ds)) (sym regroup) (rw (high p b (value-lt ds)) (low q k (low-lt n k)), had p ds)
+had q (put k n ds) = subst (λ (w : ℕ). Has w (put k n ds)) (sym regroup) (rw (high p b (value_lt ds)) (low q k (low_lt n k)), had p ds)
   where
     b : ℕ
     b = width ds
@@ -63,8 +63,8 @@ had q (put k n ds) = subst (λ (w : ℕ). Has w (put k n ds)) (sym regroup) (rw 
     regroup : q * 2 ^ (k + b) + value (put k n ds) ≡ p * 2 ^ b + value ds
     regroup = rw (sum_is (n % 2 ^ k * 2 ^ b) ds, pow-add 2 k b) (omega arith)
 
-pub value-has : (ds : Digits) → Has (value ds) ds
-value-has ds = subst (λ (w : ℕ). Has w ds) (rw (zero-mul, zero-add)) (had 0 ds)
+pub value_has : (ds : Digits) → Has (value ds) ds
+value_has ds = subst (λ (w : ℕ). Has w ds) (rw (zero-mul, zero-add)) (had 0 ds)
 
 -- what has the digits is their sum, in its low bits
 pub has_value : (w : ℕ) (ds : Digits) → Has w ds → value ds ≡ w % 2 ^ width ds

@@ -6,7 +6,7 @@ use native.Mathlib.Nat.{mod-lt, mod-mod, mod-eq_of_lt}
 use lib.Dec.{T, ltb, leb, ltb→lt, lt→ltb, leb→le, eqb→eq, eqb_refl}
 use lib.Pow.{pow_pos}
 use Rattle.word.specs.Bits.{sext}
-use Rattle.word.proofs.Signs.{sext-above}
+use Rattle.word.proofs.Signs.{sext_above}
 use Rattle.word.proofs.Bools.{and_left, and_right, and_both}
 use Rattle.isa.specs.Encoding.{signed_ok, even_ok}
 use Rattle.roundtrip.proofs.Digits.{Digits, width, value, Has, had, has_value}
@@ -25,8 +25,8 @@ pub field_is : (x k n : ℕ) → T (ltb n (2 ^ k)) → x ≡ n % 2 ^ k → x ≡
 field_is x k n t e = e ∙ mod-eq_of_lt (ltb→lt n (2 ^ k) t)
 
 -- what a field holds is in range
-pub field-ok : (x k : ℕ) → T (ltb (x % 2 ^ k) (2 ^ k))
-field-ok x k = lt→ltb (x % 2 ^ k) (2 ^ k) (mod-lt x (pow_pos k))
+pub field_ok : (x k : ℕ) → T (ltb (x % 2 ^ k) (2 ^ k))
+field_ok x k = lt→ltb (x % 2 ^ k) (2 ^ k) (mod-lt x (pow_pos k))
 
 -- ---- a signed immediate, put together of digits
 
@@ -36,7 +36,7 @@ imm_is imm ds t h = ap (sext (width ds)) (has_value imm ds h) ∙ eqb→eq (sext
 
 -- the immediate that the digits make has the digits, and is in range
 pub imm_has : (ds : Digits) → T (leb (width ds) 32) → Has (sext (width ds) (value ds)) ds
-imm_has ds t = rw (sext-above (width ds) (value ds) (leb→le (width ds) 32 t)) (had (value ds / 2 ^ (width ds - 1) * (2 ^ (32 - width ds) - 1)) ds)
+imm_has ds t = rw (sext_above (width ds) (value ds) (leb→le (width ds) 32 t)) (had (value ds / 2 ^ (width ds - 1) * (2 ^ (32 - width ds) - 1)) ds)
 
 pub imm_ok : (ds : Digits) → T (leb (width ds) 32) → T (signed_ok (width ds) (sext (width ds) (value ds)))
 imm_ok ds t = rw (← has_value (sext (width ds) (value ds)) ds (imm_has ds t)) (eqb_refl (sext (width ds) (value ds)))

@@ -36,13 +36,13 @@ use Rattle.roundtrip.proofs.Formats.{format_r, format_i, format_u, digits_i, dig
 
 -- ---- the operations, by their codes
 
-branch-is : (o : Cond) (s t : Reg) (imm : ℕ) → decode_branch (low 3 (cond_code o)) s t imm ≡ Legal (Branch o s t imm)
-branch-is Beq s t imm = refl
-branch-is Bne s t imm = refl
-branch-is Blt s t imm = refl
-branch-is Bge s t imm = refl
-branch-is Bltu s t imm = refl
-branch-is Bgeu s t imm = refl
+branch_is : (o : Cond) (s t : Reg) (imm : ℕ) → decode_branch (low 3 (cond_code o)) s t imm ≡ Legal (Branch o s t imm)
+branch_is Beq s t imm = refl
+branch_is Bne s t imm = refl
+branch_is Blt s t imm = refl
+branch_is Bge s t imm = refl
+branch_is Bltu s t imm = refl
+branch_is Bgeu s t imm = refl
 
 load_is : (o : LoadOp) (d s : Reg) (imm : ℕ) → decode_load (low 3 (load_code o)) d s imm ≡ Legal (Load o d s imm)
 load_is Lb d s imm = refl
@@ -109,9 +109,9 @@ j_imm : (w imm : ℕ) → bits w 31 31 ≡ bits imm 20 20 → bits w 30 21 ≡ b
 j_imm w imm e₂₀ e₁ e₁₁ e₁₂ ok = even_is imm (digits_j w) ok (λ even. (sym e₂₀, (sym e₁₂, (sym e₁₁, (sym e₁, even)))))
 
 -- a register, and the operands after it
-with-reg : {A : Type 0} {m n : A} (c : Bool) (x : ℕ) (r : Reg) → x ≡ low 5 r.number → (T c → m ≡ n) → T (reg_ok r && c)
+with_reg : {A : Type 0} {m n : A} (c : Bool) (x : ℕ) (r : Reg) → x ≡ low 5 r.number → (T c → m ≡ n) → T (reg_ok r && c)
     → ◌≡◌ {A = Reg × A} (reg x, m) (r, n)
-with-reg c x r e f ok i = (reg (field_is x 5 r.number (and_left (reg_ok r) c ok) e i), f (and_right (reg_ok r) c ok) i)
+with_reg c x r e f ok i = (reg (field_is x 5 r.number (and_left (reg_ok r) c ok) e i), f (and_right (reg_ok r) c ok) i)
 
 -- ---- what the word means, by its format: f is the row of the opcode, at what the fields hold
 
@@ -119,56 +119,56 @@ row : (w op : ℕ) → opcode w ≡ op → decoded w ≡ find Illegal (opcodes w
 unfolding decoded
 row w op e = ap (λ (k : ℕ). find Illegal (opcodes w) k (λ m. m)) e
 
-r-means : (w f7 f3 op : ℕ) (d s t : Reg) (f : ℕ → ℕ → Reg → Reg → Reg → Decoded)
+r_means : (w f7 f3 op : ℕ) (d s t : Reg) (f : ℕ → ℕ → Reg → Reg → Reg → Decoded)
     → find Illegal (opcodes w) (low 7 op) (λ m. m) ≡ f (funct7 w) (funct3 w) (rd w) (rs1 w) (rs2 w) → T (reg_ok d && (reg_ok s && reg_ok t))
     → Has w (format_r f7 t.number s.number f3 d.number op) → decoded w ≡ f (low 7 f7) (low 3 f3) d s t
-r-means w f7 f3 op d s t f fits ok (h7, (ht, (hs, (h3, (hd, ho))))) =
+r_means w f7 f3 op d s t f fits ok (h7, (ht, (hs, (h3, (hd, ho))))) =
     let p =
-    with-reg (reg_ok s && reg_ok t) (bits w 11 7) d hd
-    (with-reg (reg_ok t) (bits w 19 15) s hs (λ k. ap reg (field_is (bits w 24 20) 5 t.number k ht)))
+    with_reg (reg_ok s && reg_ok t) (bits w 11 7) d hd
+    (with_reg (reg_ok t) (bits w 19 15) s hs (λ k. ap reg (field_is (bits w 24 20) 5 t.number k ht)))
     ok in
     row w (low 7 op) ho ∙ fits ∙ (λ i. f (h7 i) (h3 i) (p i).0 (p i).1.0 (p i).1.1)
 
 -- the immediate m, which is imm in range
-i-means : (w imm f3 op m : ℕ) (d s : Reg) (c : Bool) (f : ℕ → Reg → Reg → ℕ → Decoded)
+i_means : (w imm f3 op m : ℕ) (d s : Reg) (c : Bool) (f : ℕ → Reg → Reg → ℕ → Decoded)
     → find Illegal (opcodes w) (low 7 op) (λ m. m) ≡ f (funct3 w) (rd w) (rs1 w) m → (bits w 31 20 ≡ low 12 imm → T c → m ≡ imm)
     → T (reg_ok d && (reg_ok s && c)) → Has w (format_i imm s.number f3 d.number op) → decoded w ≡ f (low 3 f3) d s imm
-i-means w imm f3 op m d s c f fits is ok (hi, (hs, (h3, (hd, ho)))) =
-    let p = with-reg (reg_ok s && c) (bits w 11 7) d hd (with-reg c (bits w 19 15) s hs (is hi)) ok in
+i_means w imm f3 op m d s c f fits is ok (hi, (hs, (h3, (hd, ho)))) =
+    let p = with_reg (reg_ok s && c) (bits w 11 7) d hd (with_reg c (bits w 19 15) s hs (is hi)) ok in
     row w (low 7 op) ho ∙ fits ∙ (λ i. f (h3 i) (p i).0 (p i).1.0 (p i).1.1)
 
-u-means : (w field op : ℕ) (d : Reg) (f : Reg → ℕ → Decoded) → find Illegal (opcodes w) (low 7 op) (λ m. m) ≡ f (rd w) (field_u w)
+u_means : (w field op : ℕ) (d : Reg) (f : Reg → ℕ → Decoded) → find Illegal (opcodes w) (low 7 op) (λ m. m) ≡ f (rd w) (field_u w)
     → T (reg_ok d && ltb field (2 ^ 20)) → Has w (format_u field d.number op) → decoded w ≡ f d field
-u-means w field op d f fits ok (hf, (hd, ho)) =
-    let p = with-reg (ltb field (2 ^ 20)) (bits w 11 7) d hd (λ k. field_is (field_u w) 20 field k hf) ok in
+u_means w field op d f fits ok (hf, (hd, ho)) =
+    let p = with_reg (ltb field (2 ^ 20)) (bits w 11 7) d hd (λ k. field_is (field_u w) 20 field k hf) ok in
     row w (low 7 op) ho ∙ fits ∙ (λ i. f (p i).0 (p i).1)
 
 pub reads : (w : ℕ) (i : Inst) → w < 2 ^ 32 → T (in_range i) → Has w (digits_of i) → decoded w ≡ Legal i
 unfolding in_range decoded
-reads w (Lui d field) l ok h = u-means w field 0b0110111 d (λ d n. Legal (Lui d n)) refl ok h
-reads w (Auipc d field) l ok h = u-means w field 0b0010111 d (λ d n. Legal (Auipc d n)) refl ok h
+reads w (Lui d field) l ok h = u_means w field 0b0110111 d (λ d n. Legal (Lui d n)) refl ok h
+reads w (Auipc d field) l ok h = u_means w field 0b0010111 d (λ d n. Legal (Auipc d n)) refl ok h
 reads w (Jal d imm) l ok (h20, (h1, (h11, (h12, (hd, ho))))) =
-    let p = with-reg (signed_ok 21 imm && even_ok imm) (bits w 11 7) d hd (j_imm w imm h20 h1 h11 h12) ok in
+    let p = with_reg (signed_ok 21 imm && even_ok imm) (bits w 11 7) d hd (j_imm w imm h20 h1 h11 h12) ok in
     row w 0b1101111 ho ∙ (λ i. Legal (Jal (p i).0 (p i).1))
-reads w (Jalr d s imm) l ok h = i-means w imm 0b000 0b1100111 (imm_i w) d s (signed_ok 12 imm) decode_jalr refl (i_imm w imm) ok h
+reads w (Jalr d s imm) l ok h = i_means w imm 0b000 0b1100111 (imm_i w) d s (signed_ok 12 imm) decode_jalr refl (i_imm w imm) ok h
 reads w (Branch o s t imm) l ok (h12, (h5, (ht, (hs, (h3, (h1, (h11, ho))))))) =
     let c = signed_ok 13 imm && even_ok imm in
-    let p = with-reg (reg_ok t && c) (bits w 19 15) s hs (with-reg c (bits w 24 20) t ht (b_imm w imm h12 h5 h1 h11)) ok in
-    row w 0b1100011 ho ∙ (λ i. decode_branch (h3 i) (p i).0 (p i).1.0 (p i).1.1) ∙ branch-is o s t imm
-reads w (Load o d s imm) l ok h = i-means w imm (load_code o) 0b0000011 (imm_i w) d s (signed_ok 12 imm) decode_load refl (i_imm w imm) ok h ∙ load_is o d s imm
+    let p = with_reg (reg_ok t && c) (bits w 19 15) s hs (with_reg c (bits w 24 20) t ht (b_imm w imm h12 h5 h1 h11)) ok in
+    row w 0b1100011 ho ∙ (λ i. decode_branch (h3 i) (p i).0 (p i).1.0 (p i).1.1) ∙ branch_is o s t imm
+reads w (Load o d s imm) l ok h = i_means w imm (load_code o) 0b0000011 (imm_i w) d s (signed_ok 12 imm) decode_load refl (i_imm w imm) ok h ∙ load_is o d s imm
 reads w (Store o s t imm) l ok (h5, (ht, (hs, (h3, (h0, ho))))) =
     let c = signed_ok 12 imm in
-    let p = with-reg (reg_ok t && c) (bits w 19 15) s hs (with-reg c (bits w 24 20) t ht (s_imm w imm h5 h0)) ok in
+    let p = with_reg (reg_ok t && c) (bits w 19 15) s hs (with_reg c (bits w 24 20) t ht (s_imm w imm h5 h0)) ok in
     row w 0b0100011 ho ∙ (λ i. decode_store (h3 i) (p i).0 (p i).1.0 (p i).1.1) ∙ store_is o s t imm
 reads w (Imm o d s imm) l ok h =
-    i-means w imm (imm_code o) 0b0010011 (imm_i w) d s (signed_ok 12 imm) (λ f d s n. decode_immediate f (funct7 w) d s (shamt w) n) refl (i_imm w imm) ok h
+    i_means w imm (imm_code o) 0b0010011 (imm_i w) d s (signed_ok 12 imm) (λ f d s n. decode_immediate f (funct7 w) d s (shamt w) n) refl (i_imm w imm) ok h
     ∙ immediate_is o (funct7 w) d s (shamt w) imm
 reads w (Shift o d s amount) l ok h =
-    r-means w (shift_code7 o) (shift_code o) 0b0010011 d s (reg amount) (λ f7 f3 d s t. decode_immediate f3 f7 d s t.number (imm_i w)) refl ok h
+    r_means w (shift_code7 o) (shift_code o) 0b0010011 d s (reg amount) (λ f7 f3 d s t. decode_immediate f3 f7 d s t.number (imm_i w)) refl ok h
     ∙ shift_is o d s amount (imm_i w)
-reads w (Arith o d s t) l ok h = r-means w (arith_code7 o) (arith_code o) 0b0110011 d s t decode_register refl ok h ∙ arith_is o d s t
+reads w (Arith o d s t) l ok h = r_means w (arith_code7 o) (arith_code o) 0b0110011 d s t decode_register refl ok h ∙ arith_is o d s t
 reads w (Fence d s field) l ok h =
-    i-means w field 0b000 0b0001111 (funct12 w) d s (ltb field (2 ^ 12)) decode_fence refl (λ e k. field_is (funct12 w) 12 field k e) ok h
+    i_means w field 0b000 0b0001111 (funct12 w) d s (ltb field (2 ^ 12)) decode_fence refl (λ e k. field_is (funct12 w) 12 field k e) ok h
 reads w Ecall l ok h = ap decoded (sym (whole w (digits_of Ecall) l h))
 reads w Ebreak l ok h = ap decoded (sym (whole w (digits_of Ebreak) l h))
-reads w (MulDiv o d s t) l ok h = r-means w 0b0000001 (mul_div_code o) 0b0110011 d s t decode_register refl ok h ∙ mul_div_is o d s t
+reads w (MulDiv o d s t) l ok h = r_means w 0b0000001 (mul_div_code o) 0b0110011 d s t decode_register refl ok h ∙ mul_div_is o d s t

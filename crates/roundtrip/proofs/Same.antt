@@ -5,7 +5,7 @@ use Prim.Native.Nat.{ℕ}
 use lib.Dec.{T, eqb, eqb→eq}
 use Rattle.word.specs.Tables.{find}
 use Rattle.word.proofs.Bools.{and_left, and_right}
-use Rattle.word.proofs.Rows.{passes, found_passing, found-through}
+use Rattle.word.proofs.Rows.{passes, found_passing, found_through}
 use Rattle.isa.specs.declared.Inst.{Inst}
 use Rattle.isa.specs.declared.Inst.TheVariants.{Lui, Auipc, Jal, Jalr, Branch, Load, Store, Imm, Shift, Arith, Fence, Ecall, Ebreak, MulDiv}
 use Rattle.isa.specs.declared.Cond.TheVariants.{Beq, Bne, Blt, Bge, Bltu, Bgeu}
@@ -80,13 +80,13 @@ parts_same p q t =
     let u3 = and_right (eqb p.rd q.rd) t3 u2 in
     let u4 = and_right (eqb p.rs1 q.rs1) t4 u3 in
     let u5 = and_right (eqb p.rs2 q.rs2) t5 u4 in
-    parts-eq (eqb→eq _ _ (and_left (eqb p.operation q.operation) t2 t)) (eqb→eq _ _ (and_left (eqb p.rd q.rd) t3 u2))
+    parts_eq (eqb→eq _ _ (and_left (eqb p.operation q.operation) t2 t)) (eqb→eq _ _ (and_left (eqb p.rd q.rd) t3 u2))
     (eqb→eq _ _ (and_left (eqb p.rs1 q.rs1) t4 u3))
     (eqb→eq _ _ (and_left (eqb p.rs2 q.rs2) t5 u4))
     (eqb→eq _ _ u5)
   where
-    parts-eq : {a b c d e a' b' c' d' e' : ℕ} → a ≡ a' → b ≡ b' → c ≡ c' → d ≡ d' → e ≡ e' → parts a b c d e ≡ parts a' b' c' d' e'
-    parts-eq j k l m n = λ i. parts (j i) (k i) (l i) (m i) (n i)
+    parts_eq : {a b c d e a' b' c' d' e' : ℕ} → a ≡ a' → b ≡ b' → c ≡ c' → d ≡ d' → e ≡ e' → parts a b c d e ≡ parts a' b' c' d' e'
+    parts_eq j k l m n = λ i. parts (j i) (k i) (l i) (m i) (n i)
 
 pub same : (i j : Inst) → T (same_parts (parts_of i) (parts_of j)) → i ≡ j
 same i j t = sym (back i) ∙ ap built (parts_same (parts_of i) (parts_of j) t) ∙ back j
@@ -107,13 +107,13 @@ each f h i = subst (λ j. T (f j)) (back i) (at (parts_of i))
 -- ---- what the operation alone decides
 
 -- f does not look at the operands, so it is the same for instructions of one operation
-pub by-operation : {B : Type 0} (f : Inst → B)
+pub by_operation : {B : Type 0} (f : Inst → B)
     → ((d s t v k : ℕ) → find (f Ecall) (operations d s t v) k f ≡ find (f Ecall) (operations 0 0 0 0) k f)
     → (i j : Inst) → (parts_of i).operation ≡ (parts_of j).operation → f i ≡ f j
 unfolding built
-by-operation f blind i j e = at i ∙ ap (λ (k : ℕ). find (f Ecall) (operations 0 0 0 0) k f) e ∙ sym (at j)
+by_operation f blind i j e = at i ∙ ap (λ (k : ℕ). find (f Ecall) (operations 0 0 0 0) k f) e ∙ sym (at j)
   where
     at : (i : Inst) → f i ≡ find (f Ecall) (operations 0 0 0 0) (parts_of i).operation f
     at i =
         let p = parts_of i in
-        ap f (sym (back i)) ∙ found-through f Ecall (operations p.rd p.rs1 p.rs2 p.imm) p.operation ∙ blind p.rd p.rs1 p.rs2 p.imm p.operation
+        ap f (sym (back i)) ∙ found_through f Ecall (operations p.rd p.rs1 p.rs2 p.imm) p.operation ∙ blind p.rd p.rs1 p.rs2 p.imm p.operation

@@ -9,24 +9,24 @@ use Rattle.isa.specs.Encoding.{in_range, word_of, encoded}
 use Rattle.isa.specs.declared.Inst.{Inst}
 use Rattle.isa.specs.declared.Decoded.TheVariants.{Legal}
 use Rattle.isa.specs.declared.Encoded.TheVariants.{Bits, OutOfRange}
-use Rattle.roundtrip.proofs.Digits.{value, Has, value-lt, value-has, whole}
+use Rattle.roundtrip.proofs.Digits.{value, Has, value_lt, value_has, whole}
 use Rattle.roundtrip.proofs.Formats.{digits_of, word-is}
 use Rattle.roundtrip.proofs.Reading.{reads}
 use Rattle.roundtrip.proofs.Meaning.{Good, means}
 
 -- ---- the word of an instruction, in range or not
 
-word-has : (i : Inst) → Has (word_of i) (digits_of i)
-word-has i = subst (λ (w : ℕ). Has w (digits_of i)) (sym (word-is i).0) (value-has (digits_of i))
+word_has : (i : Inst) → Has (word_of i) (digits_of i)
+word_has i = subst (λ (w : ℕ). Has w (digits_of i)) (sym (word-is i).0) (value_has (digits_of i))
 
 -- it has 32 bits
 pub word_lt : (i : Inst) → word_of i < 2 ^ 32
-word_lt i = rw (word-is i).0 (subst (λ (k : ℕ). value (digits_of i) < 2 ^ k) (word-is i).1 (value-lt (digits_of i)))
+word_lt i = rw (word-is i).0 (subst (λ (k : ℕ). value (digits_of i) < 2 ^ k) (word-is i).1 (value_lt (digits_of i)))
 
 -- ---- decoding an instruction's word gives the instruction
 
 pub decode_encode : (i : Inst) → in_range i ≡ true → decoded (word_of i) ≡ Legal i
-decode_encode i e = reads (word_of i) i (word_lt i) (holds (in_range i) e) (word-has i)
+decode_encode i e = reads (word_of i) i (word_lt i) (holds (in_range i) e) (word_has i)
 
 pub decode_encoded : (i : Inst) (w : ℕ) → encoded i ≡ Bits w → decoded w ≡ Legal i
 decode_encoded i w = go (in_range i) refl
@@ -43,10 +43,10 @@ good : (w : ℕ) (i : Inst) → decoded w ≡ Legal i → T (in_range i) × Has 
 good w i e = subst (Good w) e (means w)
 
 -- what a word means is in range
-pub decoded-in-range : (w : ℕ) (i : Inst) → decoded w ≡ Legal i → in_range i ≡ true
-decoded-in-range w i e = is_true (in_range i) (good w i e).0
+pub decoded_in_range : (w : ℕ) (i : Inst) → decoded w ≡ Legal i → in_range i ≡ true
+decoded_in_range w i e = is_true (in_range i) (good w i e).0
 
 pub encode_decode : (w : ℕ) (i : Inst) → w < 2 ^ 32 → decoded w ≡ Legal i → encoded i ≡ Bits w
 encode_decode w i l e =
     let l₃₂ = subst (λ (k : ℕ). w < 2 ^ k) (sym (word-is i).1) l in
-    ap (λ (b : Bool). cond b (Bits (word_of i)) OutOfRange) (decoded-in-range w i e) ∙ ap Bits ((word-is i).0 ∙ whole w (digits_of i) l₃₂ (good w i e).1)
+    ap (λ (b : Bool). cond b (Bits (word_of i)) OutOfRange) (decoded_in_range w i e) ∙ ap Bits ((word-is i).0 ∙ whole w (digits_of i) l₃₂ (good w i e).1)

@@ -6,7 +6,7 @@ use Prim.Native.Nat.{ℕ}
 use Rattle.answers.specs.Outcomes.{Outcome, outcome}
 use Rattle.answers.specs.Refusals.{number_of, word_of}
 use Rattle.answers.specs.Replies.{placed}
-use Rattle.answers.proofs.Numbers.{three-tells}
+use Rattle.answers.proofs.Numbers.{three_tells}
 use Rattle.answers.specs.declared.Refusal.{Refusal}
 use Rattle.resume.specs.declared.Resumed.{Resumed}
 use Rattle.resume.specs.declared.Resumed.TheVariants as A
@@ -15,15 +15,15 @@ use Rattle.run_calls.specs.Runs.{answered, resume_call}
 
 module _ (r : Refusal) (retired word : ℕ) {n : ℕ} (number : n ≡ number_of r) where
   -- 3 tells a word
-  pub word-told : {v : ℕ} → n ≡ 3 → v ≡ placed (word_of r) 0 → outcome n (retired, v) ≡ answered (A.Refused r) retired word
-  word-told e w =
-      let v : placed (word_of r) 0 ≡ placed (word_of r) word = ⊎_elim (λ t. sym (t.1 word)) (λ t. absurd (t.0 (sym number ∙ e))) (three-tells r) in
+  pub word_told_lem : {v : ℕ} → n ≡ 3 → v ≡ placed (word_of r) 0 → outcome n (retired, v) ≡ answered (A.Refused r) retired word
+  word_told_lem e w =
+      let v : placed (word_of r) 0 ≡ placed (word_of r) word = ⊎_elim (λ t. sym (t.1 word)) (λ t. absurd (t.0 (sym number ∙ e))) (three_tells r) in
       rw (w, v, number)
 
   -- no other refusal does
   pub no_word : (n ≡ 3 → ⊥) → outcome n (retired, word) ≡ answered (A.Refused r) retired word
   no_word f =
-      let w : word_of r ≡ none = ⊎_elim (λ t. absurd (f (number ∙ t.0))) (λ t. t.1) (three-tells r) in
+      let w : word_of r ≡ none = ⊎_elim (λ t. absurd (f (number ∙ t.0))) (λ t. t.1) (three_tells r) in
       rw (w, number)
 
 -- a run's answer and what it leaves, as a call

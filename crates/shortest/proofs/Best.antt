@@ -27,32 +27,32 @@ abbrev pub test : ℕ → Bool
 test h = best (expanded h) h
 
 -- in four parts, each far below antt's limit of steps for one declaration
-passes-0 : T (every test 14 0x0000)
+passes_0 : T (every test 14 0x0000)
 unfolding expanded try_for in_range
-passes-0 = tt
+passes_0 = tt
 
-passes-1 : T (every test 14 0x4000)
+passes_1 : T (every test 14 0x4000)
 unfolding expanded try_for in_range
-passes-1 = tt
+passes_1 = tt
 
-passes-2 : T (every test 14 0x8000)
+passes_2 : T (every test 14 0x8000)
 unfolding expanded try_for in_range
-passes-2 = tt
+passes_2 = tt
 
-passes-3 : T (every test 14 0xc000)
+passes_3 : T (every test 14 0xc000)
 unfolding expanded try_for in_range
-passes-3 = tt
+passes_3 = tt
 
 passes : T (every test 16 0)
 passes =
-    and_both (every test 15 0x0000) (every test 15 0x8000) (and_both (every test 14 0x0000) (every test 14 0x4000) passes-0 passes-1)
-    (and_both (every test 14 0x8000) (every test 14 0xc000) passes-2 passes-3)
+    and_both (every test 15 0x0000) (every test 15 0x8000) (and_both (every test 14 0x0000) (every test 14 0x4000) passes_0 passes_1)
+    (and_both (every test 14 0x8000) (every test 14 0xc000) passes_2 passes_3)
 
 -- what the test says of a halfword that is legal
 pub record Best (i : Inst) (h : ℕ) : Type 0 where
   pub encodable : T (in_range i)
-  pub no-larger : tried (parts_of i) ≤ h
-  pub stands-too : T (stands i (tried (parts_of i)))
+  pub no_larger : tried (parts_of i) ≤ h
+  pub stands_too : T (stands i (tried (parts_of i)))
 
 itself : (p : Parts) → same_parts p p ≡ true
 itself p =
@@ -73,6 +73,6 @@ best_of h i l e =
     let f = fits i h k e (eqb k h) refl (and_right (in_range i) rest t) in
     record {
       encodable = and_left (in_range i) rest t;
-      no-larger = f.0;
-      stands-too = f.1;
+      no_larger = f.0;
+      stands_too = f.1;
     }

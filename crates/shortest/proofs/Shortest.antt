@@ -16,7 +16,7 @@ use Rattle.isa.specs.Rvc.{expanded}
 use Rattle.isa.specs.Shortening.{means, stands, smallest, shortened}
 use Rattle.shortest.specs.Trial.{tried}
 use Rattle.shortest.proofs.Best.{best_of}
-use Rattle.shortest.proofs.Smallest.{no-smallest, the-smallest}
+use Rattle.shortest.proofs.Smallest.{no_smallest, the_smallest}
 use Rattle.roundtrip.proofs.Same.{same}
 use Rattle.shortest.proofs.Half.{half}
 
@@ -36,40 +36,40 @@ module _ (i : Inst) where
   trial_lt = half _ _ _ _ _
 
   -- no halfword that stands for i is smaller than the one tried
-  not-below : (k : ℕ) → k < trial → stands i k ≡ false
-  not-below k l = is_false (stands i k) (λ t. below (best_of k i (omega (arith, trial_lt)) (meant i k t)).no-larger)
+  not_below : (k : ℕ) → k < trial → stands i k ≡ false
+  not_below k l = is_false (stands i k) (λ t. below (best_of k i (omega (arith, trial_lt)) (meant i k t)).no_larger)
     where
       below : trial ≤ k → ⊥
       below m = omega arith
 
   -- .. and where that one does not, none does
-  none-else : stands i trial ≡ false → (k : ℕ) → k < 2 ^ 16 → stands i k ≡ false
-  none-else e k l = is_false (stands i k) (λ t. subst T e (best_of k i l (meant i k t)).stands-too)
+  none_else : stands i trial ≡ false → (k : ℕ) → k < 2 ^ 16 → stands i k ≡ false
+  none_else e k l = is_false (stands i k) (λ t. subst T e (best_of k i l (meant i k t)).stands_too)
 
   pub by_trial : smallest (stands i) (2 ^ 16) ≡ cond (stands i trial) (Half trial) NoShortForm
   by_trial = go (stands i trial) refl
     where
       go : (b : Bool) → stands i trial ≡ b → smallest (stands i) (2 ^ 16) ≡ cond b (Half trial) NoShortForm
-      go true e = the-smallest (stands i) (2 ^ 16) trial trial_lt e not-below
-      go false e = no-smallest (stands i) (2 ^ 16) (none-else e)
+      go true e = the_smallest (stands i) (2 ^ 16) trial trial_lt e not_below
+      go false e = no_smallest (stands i) (2 ^ 16) (none_else e)
 
 -- what a halfword stands for is in range
-pub expanded-in-range : (h : ℕ) (i : Inst) → h < 2 ^ 16 → expanded h ≡ Legal i → in_range i ≡ true
-expanded-in-range h i l e = is_true (in_range i) (best_of h i l e).encodable
+pub expanded_in_range : (h : ℕ) (i : Inst) → h < 2 ^ 16 → expanded h ≡ Legal i → in_range i ≡ true
+expanded_in_range h i l e = is_true (in_range i) (best_of h i l e).encodable
 
 -- an answer of the shortener: it stands for the instruction, and no other that does is smaller
 pub record Shortest (i : Inst) (h : ℕ) : Type 0 where
   pub halfword : h < 2 ^ 16
-  pub stands-for : expanded h ≡ Legal i
-  pub smallest-one : (k : ℕ) → k < 2 ^ 16 → expanded k ≡ Legal i → h ≤ k
+  pub stands_for : expanded h ≡ Legal i
+  pub smallest_one : (k : ℕ) → k < 2 ^ 16 → expanded k ≡ Legal i → h ≤ k
 
 -- the definition, as the code goes
 pub by_one : (i : Inst) → shortened i ≡ cond (in_range i) (cond (stands i (tried (parts_of i))) (Half (tried (parts_of i))) NoShortForm) OutOfRange
 by_one i = ap (λ (s : Shortened). cond (in_range i) s OutOfRange) (by_trial i)
 
 -- where a halfword stands for i, there is an answer
-pub shortened-one : (i : Inst) (h : ℕ) → h < 2 ^ 16 → expanded h ≡ Legal i → shortened i ≡ Half (tried (parts_of i))
-shortened-one i h l e = by_one i ∙ rw (expanded-in-range h i l e, is_true (stands i (trial i)) (best_of h i l e).stands-too)
+pub shortened_one : (i : Inst) (h : ℕ) → h < 2 ^ 16 → expanded h ≡ Legal i → shortened i ≡ Half (tried (parts_of i))
+shortened_one i h l e = by_one i ∙ rw (expanded_in_range h i l e, is_true (stands i (trial i)) (best_of h i l e).stands_too)
 
 -- expanding the answer gives the instruction, and the answer is the smallest that does
 pub shortened-is : (i : Inst) (h : ℕ) → shortened i ≡ Half h → Shortest i h
@@ -78,7 +78,7 @@ shortened-is i h e = go (in_range i) (stands i (trial i)) refl (sym (by_one i) �
     is : T (stands i (trial i)) → trial i ≡ h → Shortest i h
     is t q =
         subst (Shortest i) q
-        (record { halfword = trial_lt i; stands-for = meant i (trial i) t; smallest-one = λ k l m. (best_of k i l m).no-larger })
+        (record { halfword = trial_lt i; stands_for = meant i (trial i) t; smallest_one = λ k l m. (best_of k i l m).no_larger })
 
     go : (a b : Bool) → stands i (trial i) ≡ b → cond a (cond b (Half (trial i)) NoShortForm) OutOfRange ≡ Half h → Shortest i h
     go true true p q = is (holds _ p) (cc)
@@ -86,11 +86,11 @@ shortened-is i h e = go (in_range i) (stands i (trial i)) refl (sym (by_one i) �
     go false b p q = let z : ◌≡◌ {A = ℕ} 0 1 = cc in absurd (omega arith)
 
 -- refused with no short form exactly if none stands for an instruction in range
-pub no-short-form : (i : Inst) → shortened i ≡ NoShortForm → (k : ℕ) → k < 2 ^ 16 → expanded k ≡ Legal i → ⊥
-no-short-form i e k l m =
-    let q : Half (tried (parts_of i)) ≡ NoShortForm = sym (shortened-one i k l m) ∙ e in
+pub no_short_form : (i : Inst) → shortened i ≡ NoShortForm → (k : ℕ) → k < 2 ^ 16 → expanded k ≡ Legal i → ⊥
+no_short_form i e k l m =
+    let q : Half (tried (parts_of i)) ≡ NoShortForm = sym (shortened_one i k l m) ∙ e in
     let z : ◌≡◌ {A = ℕ} 0 1 = cc in
     omega arith
 
 pub none-stands : (i : Inst) → in_range i ≡ true → ((k : ℕ) → k < 2 ^ 16 → expanded k ≡ Legal i → ⊥) → shortened i ≡ NoShortForm
-none-stands i e f = rw e (no-smallest (stands i) (2 ^ 16) (λ k l. is_false (stands i k) (λ t. f k l (meant i k t))))
+none-stands i e f = rw e (no_smallest (stands i) (2 ^ 16) (λ k l. is_false (stands i k) (λ t. f k l (meant i k t))))

@@ -7,18 +7,18 @@ use native.Mathlib.Decide.{dec_lt}
 use Rattle.isa.specs.declared.Shortened.TheVariants.{Half, NoShortForm}
 use Rattle.isa.specs.Shortening.{smallest}
 
-pub no-smallest : (p : ℕ → Bool) (n : ℕ) → ((k : ℕ) → k < n → p k ≡ false) → smallest p n ≡ NoShortForm
+pub no_smallest : (p : ℕ → Bool) (n : ℕ) → ((k : ℕ) → k < n → p k ≡ false) → smallest p n ≡ NoShortForm
 unfolding smallest
-no-smallest p zero f = refl
-no-smallest p (suc n) f = rw (no-smallest p n (λ k l. f k (omega arith)), f n (omega arith))
+no_smallest p zero f = refl
+no_smallest p (suc n) f = rw (no_smallest p n (λ k l. f k (omega arith)), f n (omega arith))
 
-pub the-smallest : (p : ℕ → Bool) (n h : ℕ) → h < n → p h ≡ true → ((k : ℕ) → k < h → p k ≡ false) → smallest p n ≡ Half h
+pub the_smallest : (p : ℕ → Bool) (n h : ℕ) → h < n → p h ≡ true → ((k : ℕ) → k < h → p k ≡ false) → smallest p n ≡ Half h
 unfolding smallest
-the-smallest p zero h l t f = absurd (omega arith)
-the-smallest p (suc n) h l t f =
+the_smallest p zero h l t f = absurd (omega arith)
+the_smallest p (suc n) h l t f =
     elim (dec_lt h n) [
-      | yes m ↦ rw (the-smallest p n h m t f)
+      | yes m ↦ rw (the_smallest p n h m t f)
       | no m ↦
           let e : n ≡ h = omega arith in
-          rw (e, no-smallest p h f, t)
+          rw (e, no_smallest p h f, t)
     ]

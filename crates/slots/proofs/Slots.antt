@@ -10,10 +10,10 @@ use lib.Seq.{length-take-le, take-add, take_at, drop_at, take_all}
 use lib.Dec.{eqb, ltb}
 use borrow.Author.Tests.{eqb-true, eqb-false, eq-eqb, ne_eqb, ltb-true, ltb-false, lt-ltb, le-ltb, not-false}
 use Rattle.word.specs.Bounds.{AllBelow}
-use Rattle.word.proofs.Bools.{and_right, and-fails, is_true, holds}
-use Rattle.word.proofs.Bounds.{below-take, below-drop}
+use Rattle.word.proofs.Bools.{and_right, and_fails, is_true, holds}
+use Rattle.word.proofs.Bounds.{below_take, below_drop}
 use Rattle.answers.specs.Outcomes.{Outcome, outcome, decided}
-use Rattle.answers.proofs.Checks.{both-passed}
+use Rattle.answers.proofs.Checks.{both_passed}
 use Rattle.answers.specs.declared.Refusal.TheVariants as R
 use Rattle.answers.specs.declared.Check.{Check}
 use Rattle.answers.specs.declared.Check.TheVariants.{Passed, Refused}
@@ -21,15 +21,15 @@ use Rattle.octets.specs.Bytes.{load}
 use Rattle.state.specs.declared.State.{State}
 use Rattle.state.specs.Sizes.{Fits}
 use Rattle.state.specs.States.{well_formed}
-use Rattle.state.proofs.Laws.{form-passes, form-passed}
+use Rattle.state.proofs.Laws.{form_passes, form_passed}
 use Rattle.records.specs.Records.{record_of, state_of}
-use Rattle.records.proofs.Records.{length-record, record_sound, read_back, write-back}
+use Rattle.records.proofs.Records.{length_record, record_sound, read_back, write_back}
 use Rattle.slots.specs.declared.ReadBack.{ReadBack}
 use Rattle.slots.specs.Slots.{slot_there, slot_at, slot_set, write_entry, read_checked, read_to, no_read, read_entry}
 
 -- the part from a slot's start to its end
-pub one-record : (start : ℕ) → start + 144 - start ≡ 144
-one-record start = omega arith
+pub one_record : (start : ℕ) → start + 144 - start ≡ 144
+one_record start = omega arith
 
 pub there-fits : (k : ℕ) (slots : List ℕ) → slot_there k slots ≡ true → 144 * k + 144 ≤ length slots
 there-fits k slots h =
@@ -47,13 +47,13 @@ module _ (k : ℕ) (bytes slots : List ℕ) (lb : length bytes ≡ 144) (ls : 14
   apart : slot_set k bytes slots ≡ take (144 * k) slots ++ (bytes ++ drop (144 * k + 144) slots)
   apart = append_assoc (take (144 * k) slots) bytes (drop (144 * k + 144) slots)
 
-  pub slot-set-at : slot_at k (slot_set k bytes slots) ≡ bytes
-  slot-set-at =
+  pub slot_set_at : slot_at k (slot_set k bytes slots) ≡ bytes
+  slot_set_at =
       let after = drop (144 * k + 144) slots in
       rw (apart, drop_at (take (144 * k) slots) (bytes ++ after) (144 * k) before, take_at bytes after 144 lb)
 
-  pub slot-set-length : length (slot_set k bytes slots) ≡ length slots
-  slot-set-length = simp (length-append, length-take, length-drop) (omega arith)
+  pub slot_set_length : length (slot_set k bytes slots) ≡ length slots
+  slot_set_length = simp (length-append, length-take, length-drop) (omega arith)
 
   pub take-before : take (144 * k) (slot_set k bytes slots) ≡ take (144 * k) slots
   take-before = rw apart (take_at (take (144 * k) slots) (bytes ++ drop (144 * k + 144) slots) (144 * k) before)
@@ -67,16 +67,16 @@ pub slot_same : (k : ℕ) (slots : List ℕ) → slot_set k (slot_at k slots) sl
 slot_same k slots = rw (← (take-add (144 * k) 144 slots)) (take-append-drop (144 * k + 144) slots)
 
 pub slot-bytes : (k : ℕ) (slots : List ℕ) → AllBelow (2 ^ 8) slots → AllBelow (2 ^ 8) (slot_at k slots)
-slot-bytes k slots b = below-take (2 ^ 8) 144 (drop (144 * k) slots) (below-drop (2 ^ 8) (144 * k) slots b)
+slot-bytes k slots b = below_take (2 ^ 8) 144 (drop (144 * k) slots) (below_drop (2 ^ 8) (144 * k) slots b)
 
 -- ---- one record is a buffer of one slot
 
 module _ (r : List ℕ) (l : length r ≡ 144) where
-  pub one-slot-there : slot_there 0 r ≡ true
-  one-slot-there = rw l
+  pub one_slot_there : slot_there 0 r ≡ true
+  one_slot_there = rw l
 
-  pub one-slot-at : slot_at 0 r ≡ r
-  one-slot-at = take_all 144 r (omega (arith, l))
+  pub one_slot_at : slot_at 0 r ≡ r
+  one_slot_at = take_all 144 r (omega (arith, l))
 
 -- ---- which slots are there
 
@@ -89,7 +89,7 @@ slot_is k slots = (
 -- ---- which slots are refused
 
 pub no_slot : (k : ℕ) (slots : List ℕ) → (slot_there k slots ≡ false) ↔ ((length slots % 144 ≡ 0 → ⊥) ⊎ (length slots / 144 ≤ k))
-no_slot k slots = and-fails (eqb (length slots % 144) 0) (ltb k (length slots / 144)) (eqb-false _ _, ne_eqb _ _) (ltb-false _ _, le-ltb _ _)
+no_slot k slots = and_fails (eqb (length slots % 144) 0) (ltb k (length slots / 144)) (eqb-false _ _, ne_eqb _ _) (ltb-false _ _, le-ltb _ _)
 
 -- a slot that reads well is there, its state well-formed, and its bytes 137 to 139 zero
 pub record ReadsWell (k : ℕ) (slots : List ℕ) : Type 0 where
@@ -100,53 +100,53 @@ pub record ReadsWell (k : ℕ) (slots : List ℕ) : Type 0 where
 pub reads_well : (k : ℕ) (slots : List ℕ) → read_checked k slots ≡ Passed → ReadsWell k slots
 reads_well k slots e =
     let part : List ℕ = slot_at k slots in
-    let t = both-passed (slot_there k slots) R.Slot _ e in
-    let s = form-passed (eqb (load 3 137 part) 0) (state_of part) t.1 in
+    let t = both_passed (slot_there k slots) R.Slot _ e in
+    let s = form_passed (eqb (load 3 137 part) 0) (state_of part) t.1 in
     record { there = t.0; formed = s.1; rest = eqb-true _ _ s.0 }
 
 pub slot-length : (k : ℕ) (slots : List ℕ) → slot_there k slots ≡ true → length (slot_at k slots) ≡ 144
 slot-length k slots t = let fits = there-fits k slots t in length-take-le 144 (drop (144 * k) slots) (rw length-drop (omega arith))
 
 -- its bytes are the record of its state
-pub same-record : (k : ℕ) (slots : List ℕ) → AllBelow (2 ^ 8) slots → ReadsWell k slots → record_of (state_of (slot_at k slots)) ≡ slot_at k slots
-same-record k slots b r =
-    write-back (slot_at k slots) (slot-length k slots r.there) (slot-bytes k slots b) r.rest
+pub same_record : (k : ℕ) (slots : List ℕ) → AllBelow (2 ^ 8) slots → ReadsWell k slots → record_of (state_of (slot_at k slots)) ≡ slot_at k slots
+same_record k slots b r =
+    write_back (slot_at k slots) (slot-length k slots r.there) (slot-bytes k slots b) r.rest
 
 -- ---- slot k holds the record of s
 
 pub record SlotHolds (k : ℕ) (s : State) (slots : List ℕ) : Type 0 where
   pub there : slot_there k slots ≡ true
-  pub record-held : slot_at k slots ≡ record_of s
+  pub record_held : slot_at k slots ≡ record_of s
 
-pub holds-set : (k : ℕ) (s : State) (slots : List ℕ) → length s.x ≡ 31 → slot_there k slots ≡ true → SlotHolds k s (slot_set k (record_of s) slots)
-holds-set k s slots l t =
-    let r = length-record s l in
+pub holds_set : (k : ℕ) (s : State) (slots : List ℕ) → length s.x ≡ 31 → slot_there k slots ≡ true → SlotHolds k s (slot_set k (record_of s) slots)
+holds_set k s slots l t =
+    let r = length_record s l in
     let i = there-fits k slots t in
-    record { there = rw (slot-set-length k (record_of s) slots r i) t; record-held = slot-set-at k (record_of s) slots r i }
+    record { there = rw (slot_set_length k (record_of s) slots r i) t; record_held = slot_set_at k (record_of s) slots r i }
 
 pub read_held : (k : ℕ) (s : State) (slots : List ℕ) → SlotHolds k s slots → Fits s → well_formed s ≡ true → read_entry k slots ≡ outcome (read_to s) tt
 unfolding decided
 read_held k s slots h f w =
-    rw (h.there, h.record-held, record_sound s f w, read_back s f)
+    rw (h.there, h.record_held, record_sound s f w, read_back s f)
 
-pub write-passes : (k : ℕ) (s : State) (slots : List ℕ) → slot_there k slots ≡ true → well_formed s ≡ true → write_entry k s slots ≡ outcome Passed (slot_set k (record_of s) slots)
+pub write_passes : (k : ℕ) (s : State) (slots : List ℕ) → slot_there k slots ≡ true → well_formed s ≡ true → write_entry k s slots ≡ outcome Passed (slot_set k (record_of s) slots)
 unfolding decided
-write-passes k s slots t h = rw (t, form-passes true s refl h)
+write_passes k s slots t h = rw (t, form_passes true s refl h)
 
 -- ---- what reading slot k answered
 
-decided-check : (d : Check) (o : Outcome ReadBack (Unit {0})) → o.answer.check ≡ Passed → (decided d o no_read tt).answer.check ≡ d
+decided_check : (d : Check) (o : Outcome ReadBack (Unit {0})) → o.answer.check ≡ Passed → (decided d o no_read tt).answer.check ≡ d
 unfolding decided
-decided-check Passed o e = e
-decided-check (Refused r) o e = refl
+decided_check Passed o e = e
+decided_check (Refused r) o e = refl
 
 module _ (k : ℕ) (slots : List ℕ) {b : ReadBack} (e : outcome b tt ≡ read_entry k slots) where
-  pub check-was : {d : Check} → b.check ≡ d → read_checked k slots ≡ d
-  check-was h = sym (decided-check (read_checked k slots) _ refl) ∙ sym (ap (λ o. o.answer.check) e) ∙ h
+  pub check_was : {d : Check} → b.check ≡ d → read_checked k slots ≡ d
+  check_was h = sym (decided_check (read_checked k slots) _ refl) ∙ sym (ap (λ o. o.answer.check) e) ∙ h
 
-  pub state-was : b.check ≡ Passed → b.state ≡ state_of (slot_at k slots)
+  pub state_was : b.check ≡ Passed → b.state ≡ state_of (slot_at k slots)
   unfolding decided
-  state-was h = ap (λ o. o.answer.state) e ∙ rw (check-was h)
+  state_was h = ap (λ o. o.answer.state) e ∙ rw (check_was h)
 
-  pub slot-was-there : b.check ≡ Passed → 144 * k + 144 ≤ length slots
-  slot-was-there h = there-fits k slots (both-passed (slot_there k slots) R.Slot _ (check-was h)).0
+  pub slot_was_there : b.check ≡ Passed → 144 * k + 144 ≤ length slots
+  slot_was_there h = there-fits k slots (both_passed (slot_there k slots) R.Slot _ (check_was h)).0

@@ -10,12 +10,12 @@ use lib.Dec.{eqb, leb}
 use borrow.Author.Tests.{eqb-true, eqb-false, eq-eqb, ne_eqb, le-leb, leb-true, leb-false, lt-leb}
 use Rattle.answers.specs.Stops.{stop_number, last_stop, located, HasNoAddress}
 use Rattle.answers.proofs.Numbers.{stop-numbered}
-use Rattle.answers.proofs.Checks.{both-passed}
+use Rattle.answers.proofs.Checks.{both_passed}
 use Rattle.answers.specs.declared.Cause.{Cause}
 use Rattle.answers.specs.declared.Check.TheVariants.{Passed}
 use Rattle.answers.specs.declared.Refusal.TheVariants as R
 use Rattle.word.specs.Bounds.{AllBelow}
-use Rattle.word.proofs.Bools.{either, second, below, and-fails, or-fails}
+use Rattle.word.proofs.Bools.{either, second, below, and_fails, or_fails}
 use Rattle.word.proofs.Bounds.{below_set, below_get}
 use Rattle.isa.specs.declared.Reg.{Reg}
 use Rattle.state.specs.declared.State.{State}
@@ -24,11 +24,11 @@ use Rattle.state.specs.States.{register_of, register_set, written, advanced, hal
 
 -- ---- registers
 
-pub register-lt : (x : List ℕ) (r : Reg) → AllBelow (2 ^ 32) x → register_of x r < 2 ^ 32
-register-lt x r h = either (λ v. v < 2 ^ 32) (eqb r.number 0) _ _ (omega arith) (below_get (2 ^ 32) x (r.number - 1) (omega arith) h)
+pub register_lt : (x : List ℕ) (r : Reg) → AllBelow (2 ^ 32) x → register_of x r < 2 ^ 32
+register_lt x r h = either (λ v. v < 2 ^ 32) (eqb r.number 0) _ _ (omega arith) (below_get (2 ^ 32) x (r.number - 1) (omega arith) h)
 
-register-below : (r : Reg) (v : ℕ) (x : List ℕ) → AllBelow (2 ^ 32) x → v < 2 ^ 32 → AllBelow (2 ^ 32) (register_set r v x)
-register-below r v x h k = either (AllBelow (2 ^ 32)) (eqb r.number 0) _ _ h (below_set (2 ^ 32) x (r.number - 1) v h k)
+register_below : (r : Reg) (v : ℕ) (x : List ℕ) → AllBelow (2 ^ 32) x → v < 2 ^ 32 → AllBelow (2 ^ 32) (register_set r v x)
+register_below r v x h k = either (AllBelow (2 ^ 32)) (eqb r.number 0) _ _ h (below_set (2 ^ 32) x (r.number - 1) v h k)
 
 length-register : (r : Reg) (v : ℕ) (x : List ℕ) → length (register_set r v x) ≡ length x
 length-register r v x = either (λ y. length y ≡ length x) (eqb r.number 0) _ _ refl (length-set x (r.number - 1) v)
@@ -46,20 +46,20 @@ bare n (inr (inr (inr e))) = rw e
 abbrev NotLocated : ℕ → Type 0
 NotLocated n = (n < 3) ⊎ ((9 < n) × (n ≡ 11 → ⊥))
 
-located-fails : (n : ℕ) → (located n ≡ false) ↔ NotLocated n
-located-fails n = (there, back)
+located_fails : (n : ℕ) → (located n ≡ false) ↔ NotLocated n
+located_fails n = (there, back)
   where
     there : located n ≡ false → NotLocated n
     there e =
-        let f = or-fails (leb 3 n && leb n 9) (eqb n 11) e in
-        ⊎_elim (λ l. inl (leb-false 3 n l)) (λ l. inr (leb-false n 9 l, eqb-false n 11 f.1)) ((and-fails (leb 3 n) (leb n 9) (λ l. l, λ l. l) (λ l. l, λ l. l)).0 f.0)
+        let f = or_fails (leb 3 n && leb n 9) (eqb n 11) e in
+        ⊎_elim (λ l. inl (leb-false 3 n l)) (λ l. inr (leb-false n 9 l, eqb-false n 11 f.1)) ((and_fails (leb 3 n) (leb n 9) (λ l. l, λ l. l) (λ l. l, λ l. l)).0 f.0)
 
     back : NotLocated n → located n ≡ false
     back (inl l) = rw (lt-leb 3 n l, ne_eqb n 11 (λ e. omega arith))
     back (inr h) = rw (le-leb 3 n (omega (arith, h.0)), lt-leb n 9 h.0, ne_eqb n 11 h.1)
 
 not-located : (n : ℕ) → located n ≡ false → n ≤ last_stop → HasNoAddress n
-not-located n e l = ⊎_elim low-numbers ten ((located-fails n).0 e)
+not-located n e l = ⊎_elim low-numbers ten ((located_fails n).0 e)
   where
     low-numbers : n < 3 → HasNoAddress n
     low-numbers h = ⊎_elim (λ a. inl (omega arith)) (λ a. ⊎_elim (λ b. inr (inl (omega arith))) (λ b. inr (inr (inl (omega arith)))) (below n 2)) (below n 1)
@@ -73,8 +73,8 @@ StrayAddress s = NotLocated s.stop × (s.address ≡ 0 → ⊥)
 
 pub stray_address : (s : State) → (address_allowed s ≡ false) ↔ StrayAddress s
 stray_address s = (
-  λ e. let f = or-fails (located s.stop) (eqb s.address 0) e in ((located-fails s.stop).0 f.0, eqb-false _ _ f.1),
-  λ h. rw ((located-fails s.stop).1 h.0, ne_eqb s.address 0 h.1),
+  λ e. let f = or_fails (located s.stop) (eqb s.address 0) e in ((located_fails s.stop).0 f.0, eqb-false _ _ f.1),
+  λ h. rw ((located_fails s.stop).1 h.0, ne_eqb s.address 0 h.1),
 )
 
 -- which states are malformed, and by which refusal
@@ -86,20 +86,20 @@ pub no_stop : (s : State) → (leb s.stop last_stop ≡ false) ↔ (last_stop < 
 no_stop s = (leb-false _ _, lt-leb _ _)
 
 pub malformed : (s : State) → (well_formed s ≡ false) ↔ ((s.pc % 2 ≡ 1) ⊎ (last_stop < s.stop) ⊎ StrayAddress s)
-malformed s = and-fails (eqb (s.pc % 2) 0) _ (odd_pc s) (and-fails (leb s.stop last_stop) (address_allowed s) (no_stop s) (stray_address s))
+malformed s = and_fails (eqb (s.pc % 2) 0) _ (odd_pc s) (and_fails (leb s.stop last_stop) (address_allowed s) (no_stop s) (stray_address s))
 
 -- refusals 5, 14 and 15: the check passes exactly if the state is well-formed, and those zeros are there
-pub form-passes : (zeros : Bool) (s : State) → zeros ≡ true → well_formed s ≡ true → form_checked zeros s ≡ Passed
-form-passes zeros s z w =
+pub form_passes : (zeros : Bool) (s : State) → zeros ≡ true → well_formed s ≡ true → form_checked zeros s ≡ Passed
+form_passes zeros s z w =
     let p = (and-eq-true_iff (eqb (s.pc % 2) 0) _).0 w in
     let q = (and-eq-true_iff (leb s.stop last_stop) (address_allowed s)).0 p.1 in
     rw (p.0, q.0, z, q.1)
 
-pub form-passed : (zeros : Bool) (s : State) → form_checked zeros s ≡ Passed → (zeros ≡ true) × (well_formed s ≡ true)
-form-passed zeros s e =
-    let p = both-passed (eqb (s.pc % 2) 0) R.OddPc _ e in
-    let q = both-passed (leb s.stop last_stop) R.StopNumber _ p.1 in
-    let r = (and-eq-true_iff zeros (address_allowed s)).0 (both-passed (zeros && address_allowed s) R.RecordEnd Passed q.1).0 in
+pub form_passed : (zeros : Bool) (s : State) → form_checked zeros s ≡ Passed → (zeros ≡ true) × (well_formed s ≡ true)
+form_passed zeros s e =
+    let p = both_passed (eqb (s.pc % 2) 0) R.OddPc _ e in
+    let q = both_passed (leb s.stop last_stop) R.StopNumber _ p.1 in
+    let r = (and-eq-true_iff zeros (address_allowed s)).0 (both_passed (zeros && address_allowed s) R.RecordEnd Passed q.1).0 in
     (r.0, rw (p.0, q.0) r.1)
 
 pub formed_even : (s : State) → well_formed s ≡ true → s.pc % 2 ≡ 0
@@ -155,7 +155,7 @@ advanced_sound rd v pc s h a room g = (
   record {
     pc_fits = a.0;
     x_length = length-register rd v s.x ∙ g.0.x_length;
-    x_fits = register-below rd v s.x g.0.x_fits h;
+    x_fits = register_below rd v s.x g.0.x_fits h;
     count_fits = omega arith;
     stop_fits = g.0.stop_fits;
     address_fits = g.0.address_fits;

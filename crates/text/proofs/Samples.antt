@@ -74,19 +74,19 @@ named : entries (λ o. name_of (row o)) 48 0 ≡ entries name_at 48 0
 unfolding decimal decimal_by signed_decimal names name_at operands_of text_of built sample_line padded name_of
 named = refl
 
-pub name-first : (o : ℕ) → o < 48 → name_of (row o) ≡ name_at o
-name-first o h =
+pub name_first : (o : ℕ) → o < 48 → name_of (row o) ≡ name_at o
+name_first o h =
     sym (entry (λ o. name_of (row o)) 48 0 o o [] h (omega arith)) ∙ ap (λ (t : List (List ℕ)). get_or t o []) named ∙ entry name_at 48 0 o o [] h (omega arith)
 
 module _ (line : List ℕ) (k : ℕ) where
-  pub name-past : length line ≤ k → name_of (drop k line) ≡ []
+  pub name_past : length line ≤ k → name_of (drop k line) ≡ []
   unfolding name_of
-  name-past h = rw (drop_of_length-le line h)
+  name_past h = rw (drop_of_length-le line h)
 
-  pub name-over : k < length line → get_or line k 0 ≤ 32 → name_of (drop k line) ≡ []
+  pub name_over : k < length line → get_or line k 0 ≤ 32 → name_of (drop k line) ≡ []
   unfolding name_of
-  name-over h l = rw (drop-cons line k 0 h, le-leb (get_or line k 0) 32 l)
+  name_over h l = rw (drop-cons line k 0 h, le-leb (get_or line k 0) 32 l)
 
-  pub name-goes-on : k < length line → 32 < get_or line k 0 → name_of (drop k line) ≡ get_or line k 0 ∷ name_of (drop (k + 1) line)
+  pub name_goes_on : k < length line → 32 < get_or line k 0 → name_of (drop k line) ≡ get_or line k 0 ∷ name_of (drop (k + 1) line)
   unfolding name_of
-  name-goes-on h l = rw (drop-cons line k 0 h, lt-leb (get_or line k 0) 32 l, add-one k)
+  name_goes_on h l = rw (drop-cons line k 0 h, lt-leb (get_or line k 0) 32 l, add-one k)

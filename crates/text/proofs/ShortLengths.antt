@@ -12,7 +12,7 @@ use Rattle.word.specs.Tables.{find}
 use Rattle.word.proofs.Bools.{either}
 use Rattle.word.proofs.Rows.{◌and◌, Each, found}
 use Rattle.ascii.specs.Numbers.{decimal, signed_decimal}
-use Rattle.ascii.proofs.Numbers.{decimal-bound}
+use Rattle.ascii.proofs.Numbers.{decimal_bound}
 use Rattle.isa.specs.declared.Reg.{Reg}
 use Rattle.isa.specs.declared.Inst.{Inst}
 use Rattle.isa.specs.declared.Inst.TheVariants.{Lui, Jal, Jalr, Branch, Load, Imm, Shift, Arith, Ebreak}
@@ -32,7 +32,7 @@ use Rattle.isa.specs.Operations.{cond_number, imm_number, shift_number, arith_nu
 use Rattle.isa.specs.Rvc.{reg11_7, reg6_2, short9_7, short4_2, imm6, field_lui, imm16sp, imm4spn, imm_lw, imm_lwsp, imm_swsp, imm_cj, imm_cb, nonzero, clear12, c_addi4spn, quadrant0, c_addi16sp, c_lui, c_upper, pairs, alus, illegal, c_alu, c_branch, quadrant1, c_lwsp, c_jr, c_mv, c_jalr, c_add, c_register, c_swsp, quadrant2, quadrants, expanded}
 use Rattle.text.specs.Names.{names, name_at}
 use Rattle.text.specs.Text.{space, comma, parens, register_text, operands_of, text_of, short_text_of}
-use Rattle.text.proofs.Lengths.{plus-fits, sext-fits, one_reg, two_regs, address, name-fits}
+use Rattle.text.proofs.Lengths.{plus_fits, sext-fits, one_reg, two_regs, address, name_fits}
 
 -- what is said of the meaning of a halfword
 abbrev pub Fits : Decoded → Type 0
@@ -42,30 +42,30 @@ Fits Illegal = Unit {0}
 nonzero-fits : (n : ℕ) (i : Inst) → Fits (Legal i) → Fits (nonzero n i)
 nonzero-fits n i f = either Fits (eqb n 0) Illegal (Legal i) tt f
 
-clear-fits : (h : ℕ) (i : Inst) → Fits (Legal i) → Fits (clear12 h i)
-clear-fits h i f = either Fits (eqb (bits h 12 12) 0) (Legal i) Illegal f tt
+clear_fits : (h : ℕ) (i : Inst) → Fits (Legal i) → Fits (clear12 h i)
+clear_fits h i f = either Fits (eqb (bits h 12 12) 0) (Legal i) Illegal f tt
 
 -- ---- the forms of operands
 
-one-fits : (name t : List ℕ) (a : Reg) → a.number < 32 → length name + length t ≤ 11 → length (name ++ (space (register_text a) ++ comma t)) ≤ 16
-one-fits name t a l n = omega (arith, one_reg name a t, decimal-bound 1 a.number (omega arith))
+one_fits : (name t : List ℕ) (a : Reg) → a.number < 32 → length name + length t ≤ 11 → length (name ++ (space (register_text a) ++ comma t)) ≤ 16
+one_fits name t a l n = omega (arith, one_reg name a t, decimal_bound 1 a.number (omega arith))
 
 -- the second register has at most k + 1 digits
 two_fits : (k : ℕ) (name t : List ℕ) (a b : Reg) → a.number < 32 → b.number < 10 ^ suc k → length name + length t + k ≤ 8
     → length (name ++ (space (register_text a) ++ comma (register_text b) ++ comma t)) ≤ 16
-two_fits k name t a b l m n = omega (arith, two_regs name a b t, decimal-bound 1 a.number (omega arith), decimal-bound k b.number m)
+two_fits k name t a b l m n = omega (arith, two_regs name a b t, decimal_bound 1 a.number (omega arith), decimal_bound k b.number m)
 
 address_fits : (name t : List ℕ) (a b : Reg) → a.number < 32 → b.number < 32 → length name + length t ≤ 6
     → length (name ++ (space (register_text a) ++ comma t ++ parens (register_text b))) ≤ 16
 address_fits name t a b l m n =
-    omega (arith, address name a b t, decimal-bound 1 a.number (omega arith), decimal-bound 1 b.number (omega arith))
+    omega (arith, address name a b t, decimal_bound 1 a.number (omega arith), decimal_bound 1 b.number (omega arith))
 
 -- ---- the rows
 
 arith-fits : (o : ArithOp) (a b c : Reg) → a.number < 32 → b.number < 32 → c.number < 32 → Fits (Legal (Arith o a b c))
 unfolding operands_of text_of
 arith-fits o a b c l m n =
-    two_fits 1 (name_at (arith_number o)) (register_text c) a b l (omega arith) (omega (arith, name-fits (Arith o a b c), decimal-bound 1 c.number (omega arith)))
+    two_fits 1 (name_at (arith_number o)) (register_text c) a b l (omega arith) (omega (arith, name_fits (Arith o a b c), decimal_bound 1 c.number (omega arith)))
 
 -- addi from the stack pointer
 sp-fits : (r : Reg) (imm : ℕ) → r.number < 32 → length (signed_decimal imm) ≤ 4 → Fits (nonzero imm (Imm Addi r sp imm))
@@ -76,13 +76,13 @@ module _ (h : ℕ) where
   -- quadrant 0
 
   addi4spn_fits : Fits (c_addi4spn h)
-  addi4spn_fits = sp-fits (short4_2 h) (imm4spn h) (omega arith) (plus-fits 3 (imm4spn h) (omega arith) (omega arith))
+  addi4spn_fits = sp-fits (short4_2 h) (imm4spn h) (omega arith) (plus_fits 3 (imm4spn h) (omega arith) (omega arith))
 
   -- C.LW and C.SW
   word_fits : (name : List ℕ) → length name ≤ 2
       → length (name ++ (space (register_text (short4_2 h)) ++ comma (signed_decimal (imm_lw h)) ++ parens (register_text (short9_7 h)))) ≤ 16
   word_fits name n =
-      address_fits name (signed_decimal (imm_lw h)) (short4_2 h) (short9_7 h) (omega arith) (omega arith) (omega (arith, plus-fits 2 (imm_lw h) (omega arith) (omega arith)))
+      address_fits name (signed_decimal (imm_lw h)) (short4_2 h) (short9_7 h) (omega arith) (omega arith) (omega (arith, plus_fits 2 (imm_lw h) (omega arith) (omega arith)))
 
   -- quadrant 1
 
@@ -97,7 +97,7 @@ module _ (h : ℕ) where
   unfolding names name_at operands_of text_of
   jal_fits r l =
       let imm : length (signed_decimal (imm_cj h)) ≤ 5 = sext-fits 3 12 _ (omega arith) (omega arith) in
-      one-fits (name_at 2) (signed_decimal (imm_cj h)) r l (omega arith)
+      one_fits (name_at 2) (signed_decimal (imm_cj h)) r l (omega arith)
 
   addi16sp_fits : Fits (c_addi16sp h)
   addi16sp_fits = sp-fits sp (imm16sp h) (omega arith) (sext-fits 2 10 _ (omega arith) (omega arith))
@@ -106,7 +106,7 @@ module _ (h : ℕ) where
   unfolding names name_at operands_of text_of
   lui_fits =
       nonzero-fits (field_lui h) (Lui (reg11_7 h) (field_lui h))
-      (one-fits (name_at 0) (decimal (field_lui h)) (reg11_7 h) (omega arith) (omega (arith, decimal-bound 6 (field_lui h) (omega arith))))
+      (one_fits (name_at 0) (decimal (field_lui h)) (reg11_7 h) (omega arith) (omega (arith, decimal_bound 6 (field_lui h) (omega arith))))
 
   upper_fits : Fits (c_upper h)
   upper_fits = either Fits (eqb (bits h 11 7) 2) (c_addi16sp h) (c_lui h) addi16sp_fits lui_fits
@@ -114,17 +114,17 @@ module _ (h : ℕ) where
   shift_fits : (o : ShiftOp) (r : Reg) → r.number < 32 → Fits (clear12 h (Shift o r r (bits h 6 2)))
   unfolding operands_of text_of
   shift_fits o r l =
-      clear-fits h (Shift o r r (bits h 6 2))
-      (two_fits 1 (name_at (shift_number o)) (decimal (bits h 6 2)) r r l (omega arith) (omega (arith, name-fits (Shift o r r (bits h 6 2)), decimal-bound 1 (bits h 6 2) (omega arith))))
+      clear_fits h (Shift o r r (bits h 6 2))
+      (two_fits 1 (name_at (shift_number o)) (decimal (bits h 6 2)) r r l (omega arith) (omega (arith, name_fits (Shift o r r (bits h 6 2)), decimal_bound 1 (bits h 6 2) (omega arith))))
 
   abbrev pair : ArithOp → Decoded
   pair o = clear12 h (Arith o (short9_7 h) (short9_7 h) (short4_2 h))
 
   pair_fits : (o : ArithOp) → Fits (pair o)
-  pair_fits o = clear-fits h (Arith o (short9_7 h) (short9_7 h) (short4_2 h)) (arith-fits o (short9_7 h) (short9_7 h) (short4_2 h) (omega arith) (omega arith) (omega arith))
+  pair_fits o = clear_fits h (Arith o (short9_7 h) (short9_7 h) (short4_2 h)) (arith-fits o (short9_7 h) (short9_7 h) (short4_2 h) (omega arith) (omega arith) (omega arith))
 
-  pairs-fit : Fits (find Illegal pairs (bits h 6 5) pair)
-  pairs-fit =
+  pairs_fit : Fits (find Illegal pairs (bits h 6 5) pair)
+  pairs_fit =
       found Fits Illegal tt pairs (bits h 6 5) pair ((λ e. pair_fits Sub) and (λ e. pair_fits Xor) and (λ e. pair_fits Or) and (λ e. pair_fits And) and tt)
 
   alu_fits : Fits (c_alu h)
@@ -134,14 +134,14 @@ module _ (h : ℕ) where
       ((λ e. shift_fits Srli (short9_7 h) (omega arith))
       and (λ e. shift_fits Srai (short9_7 h) (omega arith))
       and (λ e. imm6-fits Andi (short9_7 h) (short9_7 h) (lit≤ tt) (omega arith) (omega arith))
-      and (λ e. pairs-fit)
+      and (λ e. pairs_fit)
       and tt)
 
   branch_fits : (o : Cond) → Fits (c_branch o h)
   unfolding operands_of text_of
   branch_fits o =
       let imm : length (signed_decimal (imm_cb h)) ≤ 4 = sext-fits 2 9 _ (omega arith) (omega arith) in
-      two_fits 0 (name_at (cond_number o)) (signed_decimal (imm_cb h)) (short9_7 h) x0 (omega arith) (omega arith) (omega (arith, name-fits (Branch o (short9_7 h) x0 (imm_cb h))))
+      two_fits 0 (name_at (cond_number o)) (signed_decimal (imm_cb h)) (short9_7 h) x0 (omega arith) (omega arith) (omega (arith, name_fits (Branch o (short9_7 h) x0 (imm_cb h))))
 
   -- quadrant 2
 
@@ -149,16 +149,16 @@ module _ (h : ℕ) where
   unfolding names name_at operands_of text_of
   lwsp_fits =
       nonzero-fits (bits h 11 7) (Load Lw (reg11_7 h) sp (imm_lwsp h))
-      (address_fits (name_at 12) (signed_decimal (imm_lwsp h)) (reg11_7 h) sp (omega arith) (omega arith) (omega (arith, plus-fits 2 (imm_lwsp h) (omega arith) (omega arith))))
+      (address_fits (name_at 12) (signed_decimal (imm_lwsp h)) (reg11_7 h) sp (omega arith) (omega arith) (omega (arith, plus_fits 2 (imm_lwsp h) (omega arith) (omega arith))))
 
   swsp_fits : Fits (c_swsp h)
   unfolding names name_at operands_of text_of
   swsp_fits =
-      address_fits (name_at 17) (signed_decimal (imm_swsp h)) (reg6_2 h) sp (omega arith) (omega arith) (omega (arith, plus-fits 2 (imm_swsp h) (omega arith) (omega arith)))
+      address_fits (name_at 17) (signed_decimal (imm_swsp h)) (reg6_2 h) sp (omega arith) (omega arith) (omega (arith, plus_fits 2 (imm_swsp h) (omega arith) (omega arith)))
 
   jalr_fits : (r : Reg) → r.number < 32 → Fits (Legal (Jalr r (reg11_7 h) 0))
   unfolding names name_at operands_of text_of
-  jalr_fits r l = address_fits (name_at 3) (signed_decimal 0) r (reg11_7 h) l (omega arith) (omega (arith, plus-fits 0 0 (omega arith) (omega arith)))
+  jalr_fits r l = address_fits (name_at 3) (signed_decimal 0) r (reg11_7 h) l (omega arith) (omega (arith, plus_fits 0 0 (omega arith) (omega arith)))
 
   -- C.EBREAK or C.JALR
   break_fits : (b : Bool) → Fits (Legal (cond b Ebreak (Jalr ra (reg11_7 h) 0)))
@@ -189,9 +189,9 @@ module _ (h : ℕ) where
   unfolding names name_at operands_of text_of
   rows-0 = (λ e. addi4spn_fits) and (λ e. word_fits (name_at 12) (lit≤ tt)) and (λ e. word_fits (name_at 17) (lit≤ tt)) and tt
 
-  rows-1 : Rows quadrant1
+  rows_1 : Rows quadrant1
   unfolding names name_at
-  rows-1 =
+  rows_1 =
       (λ e. imm6-fits Addi (reg11_7 h) (reg11_7 h) (lit≤ tt) (omega arith) (omega arith))
       and (λ e. jal_fits ra (omega arith))
       and (λ e. imm6-fits Addi (reg11_7 h) x0 (lit≤ tt) (omega arith) (omega arith))
@@ -212,10 +212,10 @@ module _ (h : ℕ) where
   unfolding expanded
   expanded-fits =
       found Row illegal tt quadrants (low 2 h) (λ q. find illegal q (bits h 15 13) (λ m. m))
-      ((λ e. quadrant quadrant0 rows-0) and (λ e. quadrant quadrant1 rows-1) and (λ e. quadrant quadrant2 rows-2) and tt)
+      ((λ e. quadrant quadrant0 rows-0) and (λ e. quadrant quadrant1 rows_1) and (λ e. quadrant quadrant2 rows-2) and tt)
 
-pub short-longest : (h : ℕ) (i : Inst) → expanded h ≡ Legal i → length (short_text_of i) ≤ 18
+pub short_longest : (h : ℕ) (i : Inst) → expanded h ≡ Legal i → length (short_text_of i) ≤ 18
 unfolding short_text_of
-short-longest h i e =
+short_longest h i e =
     let f : Fits (Legal i) = subst Fits e (expanded-fits h) in
     omega arith

@@ -37,18 +37,18 @@ second true b e = e
 second false b e = cc
 
 -- two tests fail where the one or the other does
-pub and-fails : (a b : Bool) {P Q : Type 0} → (a ≡ false) ↔ P → (b ≡ false) ↔ Q → ((a && b) ≡ false) ↔ (P ⊎ Q)
-and-fails true b p q = (λ e. inr (q.0 e), λ s. ⊎_elim (λ h. let z = p.1 h in cc) (λ h. q.1 h) s)
-and-fails false b p q = (λ e. inl (p.0 refl), λ s. refl)
+pub and_fails : (a b : Bool) {P Q : Type 0} → (a ≡ false) ↔ P → (b ≡ false) ↔ Q → ((a && b) ≡ false) ↔ (P ⊎ Q)
+and_fails true b p q = (λ e. inr (q.0 e), λ s. ⊎_elim (λ h. let z = p.1 h in cc) (λ h. q.1 h) s)
+and_fails false b p q = (λ e. inl (p.0 refl), λ s. refl)
 
 -- one of two tests holds unless both fail
-pub or-fails : (a b : Bool) → (a || b) ≡ false → (a ≡ false) × (b ≡ false)
-or-fails true b e = (cc, cc)
-or-fails false b e = (refl, e)
+pub or_fails : (a b : Bool) → (a || b) ≡ false → (a ≡ false) × (b ≡ false)
+or_fails true b e = (cc, cc)
+or_fails false b e = (refl, e)
 
-pub flag-le : (t : Bool) → flag t ≤ 1
-flag-le true = omega arith
-flag-le false = omega arith
+pub flag_le : (t : Bool) → flag t ≤ 1
+flag_le true = omega arith
+flag_le false = omega arith
 
 -- what holds of both cases holds of the one that a test picks
 pub either : {A : Type 0} (P : A → Type 0) (b : Bool) (s t : A) → P s → P t → P (cond b s t)

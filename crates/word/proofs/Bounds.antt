@@ -5,19 +5,19 @@ use lib.ListN.{take, drop, get_or, set}
 use Rattle.word.specs.Bounds.{AllBelow}
 
 module _ (b : ℕ) where
-  pub below-append : (s t : List ℕ) → AllBelow b s → AllBelow b t → AllBelow b (s ++ t)
-  below-append [] t h k = k
-  below-append (v ∷ s) t h k = (h.0, below-append s t h.1 k)
+  pub below_append : (s t : List ℕ) → AllBelow b s → AllBelow b t → AllBelow b (s ++ t)
+  below_append [] t h k = k
+  below_append (v ∷ s) t h k = (h.0, below_append s t h.1 k)
 
-  pub below-take : (n : ℕ) (s : List ℕ) → AllBelow b s → AllBelow b (take n s)
-  below-take zero s h = tt
-  below-take (suc n) [] h = tt
-  below-take (suc n) (v ∷ s) h = (h.0, below-take n s h.1)
+  pub below_take : (n : ℕ) (s : List ℕ) → AllBelow b s → AllBelow b (take n s)
+  below_take zero s h = tt
+  below_take (suc n) [] h = tt
+  below_take (suc n) (v ∷ s) h = (h.0, below_take n s h.1)
 
-  pub below-drop : (n : ℕ) (s : List ℕ) → AllBelow b s → AllBelow b (drop n s)
-  below-drop zero s h = h
-  below-drop (suc n) [] h = tt
-  below-drop (suc n) (v ∷ s) h = below-drop n s h.1
+  pub below_drop : (n : ℕ) (s : List ℕ) → AllBelow b s → AllBelow b (drop n s)
+  below_drop zero s h = h
+  below_drop (suc n) [] h = tt
+  below_drop (suc n) (v ∷ s) h = below_drop n s h.1
 
   pub below_set : (s : List ℕ) (n v : ℕ) → AllBelow b s → v < b → AllBelow b (set s n v)
   below_set [] n v h k = tt

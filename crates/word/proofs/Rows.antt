@@ -60,9 +60,9 @@ pub found_passing : {A B : Type 0} (P : B → Type 0) (d : B) → P d → (p : �
 found_passing P d z p t k f ok g = found P d z t k f (each P p t k f ok g)
 
 -- a function of what is found
-pub found-through : {A B : Type 0} (f : A → B) (d : A) (t : List (ℕ × A)) (k : ℕ) → f (find d t k (λ a. a)) ≡ find (f d) t k f
-found-through f d [] k = refl
-found-through f d (r ∷ t) k = go (found-through f d t k) (eqb k r.0)
+pub found_through : {A B : Type 0} (f : A → B) (d : A) (t : List (ℕ × A)) (k : ℕ) → f (find d t k (λ a. a)) ≡ find (f d) t k f
+found_through f d [] k = refl
+found_through f d (r ∷ t) k = go (found_through f d t k) (eqb k r.0)
   where
     go : f (find d t k (λ a. a)) ≡ find (f d) t k f → (b : Bool) → f (cond b r.1 (find d t k (λ a. a))) ≡ cond b (f r.1) (find (f d) t k f)
     go u true = refl

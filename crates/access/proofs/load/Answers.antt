@@ -1,6 +1,6 @@
 -- `access::load` meets its contract: the place is the map's, and each arm is the row of `loaded_from` for it.
 use borrow.Author.Rules.{rules}
-use Rattle.place.proofs.Placed.{placed-memory, placed_fuse}
+use Rattle.place.proofs.Placed.{placed_memory, placed_fuse}
 use Rattle.access.specs.Accesses.{loaded_from}
 use Rattle.access.proofs.Places.{place_is}
 use Rattle.access.proofs.load.Goals as goal
@@ -9,7 +9,7 @@ pub extended_load-requires : goal.extended_load-requires
 unfolding loaded_from
 extended_load-requires c =
     let b = c in
-    (placed-memory _ _ _ _ (place_is _ _ b.load_width.ensures b.place_of-place.ensures c.in-Memory.is)).1
+    (placed_memory _ _ _ _ (place_is _ _ b.load_width.ensures b.place_of-place.ensures c.in-Memory.is)).1
 
 pub load_of_row-requires-clause-k_bound : goal.load_of_row-requires-clause-k_bound
 unfolding loaded_from

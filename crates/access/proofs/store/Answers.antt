@@ -1,6 +1,6 @@
 -- `access::store` meets its contract: the place is the map's, and each arm is the row of `stored_to` for it.
 use borrow.Author.Rules.{rules}
-use Rattle.place.proofs.Placed.{placed-memory, placed_fuse}
+use Rattle.place.proofs.Placed.{placed_memory, placed_fuse}
 use Rattle.access.specs.Accesses.{stored_to}
 use Rattle.access.proofs.Places.{place_is}
 use Rattle.access.proofs.store.Goals as goal
@@ -11,7 +11,7 @@ store_of-requires c =
     let found = c in
     let b = found in
     rw b.store_width-width.ensures
-    (placed-memory _ _ _ _ (place_is _ _ b.store_width-width.ensures b.place_of-place.ensures found.in-Memory.is)).1
+    (placed_memory _ _ _ _ (place_is _ _ b.store_width-width.ensures b.place_of-place.ensures found.in-Memory.is)).1
 
 pub store_in_row-requires-clause-k_bound : goal.store_in_row-requires-clause-k_bound
 unfolding stored_to

@@ -4,19 +4,19 @@ use native.Mathlib.Omega.{arith}
 use Prim.Native.Nat.{◌<◌, ◌≤◌}
 use lib.ListN.{length, length-append}
 use Rattle.ascii.proofs.Rooms.{then}
-use Rattle.ascii.proofs.Numbers.{decimal-one, decimal-more}
+use Rattle.ascii.proofs.Numbers.{decimal_one, decimal-more}
 use Rattle.ascii.proofs.+put_decimal.Goals as goal
 
 pub put-requires : goal.put-requires
 put-requires t c =
     let n = c.args.n in
     let h : n < 10 = omega arith in
-    omega (arith, ap length (decimal-one n h))
+    omega (arith, ap length (decimal_one n h))
 
 pub returns-then-n-lt10 : goal.returns-then-n-lt10
 returns-then-n-lt10 t c =
     let h : c.args.n < 10 = omega arith in
-    rw (decimal-one _ h) c.put.ensures
+    rw (decimal_one _ h) c.put.ensures
 
 pub put_decimal-last-requires : goal.put_decimal-last-requires
 put_decimal-last-requires t c =

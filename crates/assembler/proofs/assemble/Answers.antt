@@ -1,6 +1,6 @@
 -- `assembler::assemble` meets its contract: a line is at fault, the room is too short, or the output is written.
 use native.Mathlib.Omega.{arith}
-use Rattle.assembler.proofs.Passes.{refused-line, small-room, filled-room}
+use Rattle.assembler.proofs.Passes.{refused-line, small_room, filled-room}
 use Rattle.assembler.proofs.assemble.Goals as goal
 
 pub returns-in_default : goal.returns-in_default
@@ -13,7 +13,7 @@ pub returns-then-length-room : goal.returns-then-length-room
 returns-then-length-room c =
     let a = c.args in
     let m = c.measure-measured in
-    small-room a.text.now a.room.now m.result m.ensures c.in-Length.length c.in-Length.is (omega arith)
+    small_room a.text.now a.room.now m.result m.ensures c.in-Length.length c.in-Length.is (omega arith)
 
 pub returns : goal.returns
 returns c =

@@ -1,7 +1,7 @@
 -- `text_of` meets its contract: the room's test, then the instruction's, decide as the contract's do; the text is written from 0 on.
 use native.Mathlib.Omega.{arith}
 use mathlib.Core.Path.{sym, ◌∙◌}
-use Rattle.text.proofs.Lengths.{text-fits}
+use Rattle.text.proofs.Lengths.{text_fits}
 use Rattle.disassembler.proofs.Outcomes.{no_room, text-refused, text-written}
 use Rattle.disassembler.proofs.text_of.Goals as goal
 
@@ -16,11 +16,11 @@ returns-then-not-in_range c =
 pub put_text-requires : goal.put_text-requires
 put_text-requires c =
     let r = c in
-    omega (arith, text-fits _ (sym r.in_range.ensures ∙ c.if-not-in_range.false))
+    omega (arith, text_fits _ (sym r.in_range.ensures ∙ c.if-not-in_range.false))
 
 pub returns : goal.returns
 returns c =
     let text = c in
     let r = text in
     let ok = text.if-not-in_range.false in
-    rw (← r.in_range.ensures, ok) (text-written _ r.if-room-lt-ROOM.false (text-fits _ (sym r.in_range.ensures ∙ ok)) text.put_text.ensures)
+    rw (← r.in_range.ensures, ok) (text-written _ r.if-room-lt-ROOM.false (text_fits _ (sym r.in_range.ensures ∙ ok)) text.put_text.ensures)

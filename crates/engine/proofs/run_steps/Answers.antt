@@ -4,7 +4,7 @@ use native.Mathlib.Omega.{arith}
 use mathlib.Core.Path.{◌≡◌, sym, ap, ◌∙◌}
 use Rattle.boards.specs.Boards.{board, masks}
 use Rattle.engine.specs.Steps.{masked, ran}
-use Rattle.engine.proofs.Laws.{ran_stopped, ran-turn, ran-full, step-does}
+use Rattle.engine.proofs.Laws.{ran_stopped, ran_turn, ran_full, step_does}
 use Rattle.engine.proofs.run_steps.Goals as goal
 
 pub returns-then-t-ne0 : goal.returns-then-t-ne0
@@ -20,7 +20,7 @@ returns-then-t-ge-FULL_COUNT c =
     let l = looping.loop-left in
     let entry = looping in
     rw c.halt.ensures
-    (ran-full l.left (masked (masks entry.args.own entry.args.other) l.t (board l.mem l.row)) (omega arith) (omega (arith, tests.if-t-ne0.false)) tests.if-t-ge-FULL_COUNT.true ∙ l.invariant.1.1)
+    (ran_full l.left (masked (masks entry.args.own entry.args.other) l.t (board l.mem l.row)) (omega arith) (omega (arith, tests.if-t-ne0.false)) tests.if-t-ge-FULL_COUNT.true ∙ l.invariant.1.1)
 
 pub loop-left-preserved : goal.loop-left-preserved
 loop-left-preserved c =
@@ -31,8 +31,8 @@ loop-left-preserved c =
     let l = looping.loop-left in
     let entry = looping in
     let w = masked (masks entry.args.own entry.args.other) l.t (board l.mem l.row) in
-    let s = step-does w (omega (arith, tests.if-t-ne0.false)) tests.if-t-ge-FULL_COUNT.false decided.act_at-act.ensures performed.perform-e.ensures c.apply-t.ensures in
-    (omega arith, (omega arith, ran-turn l.left w (omega arith) s ∙ l.invariant.1.1))
+    let s = step_does w (omega (arith, tests.if-t-ne0.false)) tests.if-t-ge-FULL_COUNT.false decided.act_at-act.ensures performed.perform-e.ensures c.apply-t.ensures in
+    (omega arith, (omega arith, ran_turn l.left w (omega arith) s ∙ l.invariant.1.1))
 
 pub returns : goal.returns
 unfolding ran

@@ -2,7 +2,7 @@
 use mathlib.Core.Logic.{inl, inr}
 use native.Mathlib.Omega.{arith}
 use borrow.Author.Tests.{leb-true, leb-false}
-use Rattle.listing.proofs.Lines.{line-moves}
+use Rattle.listing.proofs.Lines.{line_moves}
 use Rattle.listing.proofs.Writing.{begins, goes_on, ends}
 use Rattle.listing.proofs.list.Goals as goal
 
@@ -10,7 +10,7 @@ pub loop-next-init : goal.loop-next-init
 loop-next-init c = (omega arith, begins _ _ _)
 
 pub loop-next-smaller : goal.loop-next-smaller
-loop-next-smaller c = omega (arith, line-moves c.args.image.now c.loop-next.next (omega arith))
+loop-next-smaller c = omega (arith, line_moves c.args.image.now c.loop-next.next (omega arith))
 
 pub loop-next-preserved : goal.loop-next-preserved
 loop-next-preserved c =

@@ -2,7 +2,7 @@
 use Rattle.std.proofs.Common.{◌+◌, ◌*◌, ◌≤◌, length, arith}
 use Rattle.ascii.proofs.Rooms.{then}
 use Rattle.listing.specs.Listing.{size_of, shown_text, line_of}
-use Rattle.listing.proofs.Lines.{shown-within, shown-fits, front_length, line-none, line-some}
+use Rattle.listing.proofs.Lines.{shown-within, shown-fits, front_length, line-none, line_some}
 use Rattle.listing.proofs.put_line.Goals as goal
 
 pub returns-then-image-gt-IMAGE-clause-wrote : goal.returns-then-image-gt-IMAGE-clause-wrote
@@ -30,9 +30,9 @@ put-requires c =
 pub returns-clause-wrote : goal.returns-clause-wrote
 unfolding line_of
 returns-clause-wrote c =
-    rw (line-some _ _ c.if-image-gt-IMAGE.false, ← c.shown_at-shown.ensures, ← c.bits_of.ensures, ← c.size_of-size.ensures)
+    rw (line_some _ _ c.if-image-gt-IMAGE.false, ← c.shown_at-shown.ensures, ← c.bits_of.ensures, ← c.size_of-size.ensures)
     (then (then c.put_front-text.ensures c.put_shown-newline.ensures) c.put.ensures)
 
 pub returns-clause-next_value : goal.returns-clause-next_value
 unfolding line_of
-returns-clause-next_value c = rw (line-some _ _ c.if-image-gt-IMAGE.false, ← c.shown_at-shown.ensures, ← c.size_of-size.ensures)
+returns-clause-next_value c = rw (line_some _ _ c.if-image-gt-IMAGE.false, ← c.shown_at-shown.ensures, ← c.size_of-size.ensures)

@@ -1,6 +1,6 @@
 -- No digit, a number that is untidy or past 32 bits with its sign, one with a minus, one without.
 use Rattle.std.proofs.Common.{◌≡◌, ◌-◌, ◌+◌, ◌^◌, ◌≤◌, length, true, ap, ◌∙◌, arith}
-use Rattle.numerals.proofs.Laws.{sign-within, digits-within}
+use Rattle.numerals.proofs.Laws.{sign_within, digits-within}
 use Rattle.numerals.proofs.Numbers.{num, fine, bad, small, negative, bare, value_pos}
 use Rattle.numerals.proofs.read_number.Goals as goal
 
@@ -9,7 +9,7 @@ bounds-text-first c =
     let a = c.args in
     let m = c.minus-sign in
     let d = c.read_digits-digits in
-    let begins : (a.from + m.result ≤ length a.text.now) × (m.result ≤ 1) = rw m.ensures (sign-within a.field a.from a.text.now c.requires) in
+    let begins : (a.from + m.result ≤ length a.text.now) × (m.result ≤ 1) = rw m.ensures (sign_within a.field a.from a.text.now c.requires) in
     omega (arith, digits-within a.text.now (a.from + m.result) d.result d.ensures begins.0)
 
 pub returns-then-not-tidy-fits : goal.returns-then-not-tidy-fits

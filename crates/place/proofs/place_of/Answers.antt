@@ -3,7 +3,7 @@ use Prim.Native.Nat.{◌+◌, ◌≤◌}
 use native.Mathlib.Omega.{arith}
 use borrow.Author.Tests.{le-leb}
 use Rattle.place.specs.Map.{placed}
-use Rattle.place.proofs.Placed.{beyond-memory}
+use Rattle.place.proofs.Placed.{beyond_memory}
 use Rattle.place.proofs.place_of.Goals as goal
 
 pub returns-then-not-is_aligned : goal.returns-then-not-is_aligned
@@ -25,10 +25,10 @@ pub returns-then-is_word-address : goal.returns-then-is_word-address
 unfolding placed
 returns-then-is_word-address c =
     let b = c in
-    beyond-memory _ b.args.address b.args.size c.count.result _ _ _ b.is_aligned.ensures c.if-not-is_aligned.false c.count.ensures (omega arith) c.is_word.ensures c.if-is_word-address.true
+    beyond_memory _ b.args.address b.args.size c.count.result _ _ _ b.is_aligned.ensures c.if-not-is_aligned.false c.count.ensures (omega arith) c.is_word.ensures c.if-is_word-address.true
 
 pub returns : goal.returns
 unfolding placed
 returns c =
     let b = c in
-    beyond-memory _ b.args.address b.args.size c.count.result _ _ _ b.is_aligned.ensures c.if-not-is_aligned.false c.count.ensures (omega arith) c.is_word.ensures c.if-is_word-address.false
+    beyond_memory _ b.args.address b.args.size c.count.result _ _ _ b.is_aligned.ensures c.if-not-is_aligned.false c.count.ensures (omega arith) c.is_word.ensures c.if-is_word-address.false

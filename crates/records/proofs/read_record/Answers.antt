@@ -8,7 +8,7 @@ use Rattle.octets.specs.Bytes.{load}
 use Rattle.octets.proofs.Bytes.{load_one}
 use Rattle.state.specs.States.{state}
 use Rattle.records.specs.Records.{of_words, state_of}
-use Rattle.records.proofs.Records.{read-turn}
+use Rattle.records.proofs.Records.{read_turn}
 use Rattle.records.proofs.read_record.Goals as goal
 
 pub loop-i-init : goal.loop-i-init
@@ -18,7 +18,7 @@ loop-i-init c = (search rules, (search rules, refl))
 pub loop-i-preserved : goal.loop-i-preserved
 loop-i-preserved c =
     let l = c.loop-i in
-    (search rules, (simp length-set l.invariant.1.0, read-turn _ _ _ _ (search rules) l.invariant.1.1 c.load4.ensures))
+    (search rules, (simp length-set l.invariant.1.0, read_turn _ _ _ _ (search rules) l.invariant.1.1 c.load4.ensures))
 
 pub returns : goal.returns
 unfolding state_of

@@ -3,9 +3,9 @@ use native.Mathlib.Omega.{arith}
 use Rattle.boards.specs.Boards.{board, masks}
 use Rattle.engine.specs.Steps.{masked}
 use Rattle.engine.proofs.Laws.{count_grew}
-use Rattle.slots.proofs.Slots.{slot-was-there}
+use Rattle.slots.proofs.Slots.{slot_was_there}
 use Rattle.resume.specs.Resuming.{shared_bench}
-use Rattle.resume.proofs.Resuming.{no_start, no-state, carried_on}
+use Rattle.resume.proofs.Resuming.{no_start, no_state_lem, carried_on}
 use Rattle.resume.proofs.run_slot_masked.Goals as goal
 
 pub returns-in-Refused : goal.returns-in-Refused
@@ -20,7 +20,7 @@ returns-in-Refused-found c =
     let passed = read in
     let lent = passed in
     let at = lent.args in
-    no-state at.budget at.k (shared_bench (masks at.own at.other) (board at.mem.now at.row.now) at.slots.now) lent.check_start.ensures passed.in_default.is
+    no_state_lem at.budget at.k (shared_bench (masks at.own at.other) (board at.mem.now at.row.now) at.slots.now) lent.check_start.ensures passed.in_default.is
     read.read_slot-back.ensures c.in-Refused-found.is
 
 pub put-requires : goal.put-requires
@@ -29,7 +29,7 @@ put-requires c =
     let read = sound in
     let lent = read in
     let at = lent.args in
-    omega (arith, slot-was-there at.k at.slots.now read.read_slot-back.ensures sound.in_default-found.is)
+    omega (arith, slot_was_there at.k at.slots.now read.read_slot-back.ensures sound.in_default-found.is)
 
 pub overflow_sub-retired : goal.overflow_sub-retired
 overflow_sub-retired c =
