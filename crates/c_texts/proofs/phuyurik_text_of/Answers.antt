@@ -15,6 +15,7 @@ use Rattle.disassembler.specs.Entries.{of_written}
 use Rattle.c_texts.specs.Texts.{inst_text}
 use Rattle.c_texts.proofs.phuyurik_text_of.Goals as goal
 
+-- whatever the numbers are
 short : (a : Answer Inst) (room : List ℕ) → length room < 24 → outcome (W.Refused R.Room) room ≡ inst_text a room
 short (given i) room h = no_room _ _ room h
 short (refused_with n) room h = no_room _ _ room h

@@ -10,10 +10,12 @@ use Rattle.word.proofs.Sweep.{every, ruled, entry}
 use Rattle.chart.specs.Chart.{class_of}
 use Rattle.chart.proofs.chart.Goals as goal
 
+-- the test at all 256 entries is the rule at each
 rule : (entries : List ℕ) → T (every (ruled 8 256 class_of entries) 8 0) → (a b : ℕ)
     → get_or entries (a % 2 ^ 5 * 8 + b % 2 ^ 3) 0 ≡ class_of (a % 2 ^ 5) (b % 2 ^ 3)
 rule entries t a b = entry 8 256 8 class_of entries t (a % 2 ^ 5) (b % 2 ^ 3) (omega arith) (omega arith) (omega arith)
 
+-- five low bits and three, joined
 index : (a b : ℕ) → ored (cut a 5 3) (last b 3) ≡ a % 2 ^ 5 * 8 + b % 2 ^ 3
 index a b = gather a 5 3 (last b 3) tt
 

@@ -6,6 +6,7 @@ use Rattle.word.specs.Bits.{sext}
 use Rattle.word.proofs.Scatter.{Pieces, end, put, gather, gathered_lt}
 use Rattle.decoder.proofs.imm_b.Goals as goal
 
+-- the pieces after the first
 abbrev pieces : ℕ → Pieces
 pieces w = put (w / 2 ^ 7) 1 11 (put (w / 2 ^ 25) 6 5 (put (w / 2 ^ 8) 4 1 end))
 

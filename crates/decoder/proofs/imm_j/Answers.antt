@@ -6,6 +6,7 @@ use Rattle.word.specs.Bits.{sext}
 use Rattle.word.proofs.Scatter.{Pieces, end, put, gather, gathered_lt}
 use Rattle.decoder.proofs.imm_j.Goals as goal
 
+-- the pieces after the first
 abbrev pieces : ℕ → Pieces
 pieces w = put (w / 2 ^ 12) 8 12 (put (w / 2 ^ 20) 1 11 (put (w / 2 ^ 21) 10 1 end))
 

@@ -7,6 +7,7 @@ use borrow.Author.Tests.{ne_eqb}
 use Rattle.fuses.specs.Row.{word_stored}
 use Rattle.fuses.proofs.store_word.Goals as goal
 
+-- by whether a word is burnt, not by whether it is blank
 turned : {A : Type 0} (b : Bool) (x y : A) → cond b x y ≡ cond (not b) y x
 turned true x y = refl
 turned false x y = refl

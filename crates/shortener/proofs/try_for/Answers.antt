@@ -5,6 +5,7 @@ use Rattle.word.proofs.Rows.{none}
 use Rattle.shortest.specs.Trial.{tries, try_none, try_for}
 use Rattle.shortener.proofs.try_for.Goals as goal
 
+-- try_for stays shut till the operation is a number: of the table only its row is then left
 row : (k o d s t v : ℕ) → o ≡ k → find try_none tries k (λ f. f) d s t v ≡ try_for o d s t v
 unfolding try_for
 row k o d s t v e = rw e

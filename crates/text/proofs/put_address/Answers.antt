@@ -10,6 +10,7 @@ use Rattle.ascii.proofs.Rooms.{then}
 use Rattle.text.specs.Text.{space, comma, parens, register_text}
 use Rattle.text.proofs.put_address.Goals as goal
 
+-- the two in front, the base register, and its brackets
 size : (first : Reg) (offset : ℕ) (base : Reg)
     → length (space (register_text first) ++ comma (signed_decimal offset) ++ parens (register_text base))
     ≡ length (space (register_text first) ++ comma (signed_decimal offset)) + length (register_text base) + 2
