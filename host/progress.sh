@@ -1,6 +1,6 @@
 #!/usr/bin/env bash
 # rt .. 2>&1 | progress.sh [NAME..]: copies what rt prints as it goes, and tells on standard error how far it is. rt
-# proves the crates named and those that they use; with no name all of them, and then it tries the wrong answers.
+# proves the crates named and those that they use; with no name all of them, and it tries the wrong answers.
 set -u
 cd "$(dirname "$0")/.." || exit 1
 
@@ -15,75 +15,53 @@ crates() {
             print name
         }
         { sub(/#.*/, "") }
-        NF > 1 { uses[$1] = $2; all = all " " $1 }
+        NF > 1 { sub(/ .*/, "", $1); uses[$1] = $2; all = all " " $1 }
         END {
             n = split(ENVIRON["WANTED"] == "" ? all : ENVIRON["WANTED"], wanted, " ")
             for (i = 1; i <= n; i++) visit(wanted[i])
         }' crates.txt
 }
 
-names=$(crates "$@")
-total=$(wc -w <<<"$names")
+total=$(crates "$@" | wc -l)
 edits=$(printf '%s\n' crates/*/must-fail/*.edit | wc -l)
-declare -A number=()
-ended=0 unchanged=0 tried=0
+begun=0 ended=0 kept=0 tried=0
 
 tell() { printf '%s\n' "$*" >&2; }
 
-# begin NAME: gives a crate its number, which is its place among those begun
-begin() { [ -n "${number[$1]:-}" ] || number[$1]=$((${#number[@]} + 1)); }
-
-# tells of the crates begun. rt prints nothing of a crate before its end; until then the file for that is empty
-look() {
-    local name
-    for name in $names; do
-        if [ -z "${number[$name]:-}" ] && [ -f "target/log/$name.out" ] && [ ! -s "target/log/$name.out" ]; then
-            begin "$name"
-            tell "proving ${number[$name]} of $total: $name"
-        fi
-    done
+# begin NAME: `rt lib` begins with a crate; of those that it need not prove again it says nothing
+begin() {
+    begun=$((begun + 1))
+    tell "proving $1, $begun of at most $total"
 }
 
-# crate NAME RESULT REST: a crate that rt is done with
-crate() {
-    begin "$1"
+# end NAME RESULT: `rt ci` is done with a crate
+end() {
     ended=$((ended + 1))
-    if [[ $3 == '(unchanged '* ]]; then
-        unchanged=$((unchanged + 1))
-    else
-        tell "$2 ${number[$1]} of $total: $1 $3, $((total - ended)) left"
-    fi
+    tell "$1 $2, $ended of $total"
 }
 
-# edit NAME RESULT: a wrong answer that has been tried
-edit() {
-    tried=$((tried + 1))
-    local result=$2
-    [[ $result =~ ^refused,.*[\(\ ]([0-9]+\ s\))$ ]] && result="refused (${BASH_REMATCH[1]}"
-    tell "wrong answer $tried of $edits: $1 $result, $((edits - tried)) left"
+# try NAME COUNT: `rt ci` begins with the wrong answers of a crate, and tells what came of them after the last one
+try() {
+    tell "trying wrong answers of $1, $((tried + 1)) to $((tried + $2)) of $edits"
+    tried=$((tried + $2))
 }
 
 line_of_rt() {
-    if [[ $1 =~ ^rt:\ ([a-z_0-9]+)\ (proved|NOT\ PROVED):?\ (.*)$ ]]; then
-        crate "${BASH_REMATCH[@]:1:3}"
-    elif [[ $1 =~ ^rt:\ must-fail\ ([^:]+):\ (.*)$ ]]; then
-        edit "${BASH_REMATCH[@]:1:2}"
+    if [[ $1 =~ ^rt:\ chose\ --jobs\ [0-9]+\ for\ ([a-z_0-9]+)$ ]]; then
+        begin "${BASH_REMATCH[1]}"
+    elif [[ $1 =~ ^rt:\ ([a-z_0-9]+)\ (proved|NOT\ PROVED.*)$ ]]; then
+        end "${BASH_REMATCH[@]:1:2}"
+    elif [[ $1 =~ ^rt:\ [a-z_0-9]+\ is\ kept: ]]; then
+        ended=$((ended + 1)) kept=$((kept + 1))
+    elif [[ $1 =~ ^rt:\ ([a-z_0-9]+):\ trying\ its\ must-fail\ edits\ \(([0-9]+)\)$ ]]; then
+        try "${BASH_REMATCH[@]:1:2}"
     fi
 }
 
-# a second without a whole line is the time to look
-front=
-while :; do
-    if IFS= read -r -t 1 line; then
-        line=$front$line front=
-        printf '%s\n' "$line"
-        line_of_rt "$line"
-    elif [ $? -gt 128 ]; then
-        front+=$line
-        look
-    else
-        break
-    fi
+while IFS= read -r line; do
+    printf '%s\n' "$line"
+    line_of_rt "$line"
 done
-printf '%s' "$front$line"
-[ "$unchanged" -eq 0 ] || tell "$unchanged of $total crates had not changed since they were proved"
+# what stands after the last newline
+printf '%s' "$line"
+[ "$kept" -eq 0 ] || tell "$kept of $total crates had been proved before"

@@ -1,45 +1,24 @@
 //! The proved program `assemble_stdin`, with a text as its standard input. What is expected is the
 //! paper's and the outside vectors'.
-use std::fs::{self, File};
-use std::path::{Path, PathBuf};
+use std::fs::{File, OpenOptions};
+use std::iter;
+use std::path::Path;
 use std::process::Command;
-use std::{env, iter};
 use testing::example::{IMAGE, LINES};
 use testing::Folder;
 
 /// The longest text that the program takes.
 const LONGEST: usize = 65_536;
 
-/// The folder of the kit, as `rt` finds it.
-fn kit() -> PathBuf {
-    if let Some(home) = env::var_os("RATTLE_HOME") {
-        return home.into();
-    }
-    let path = env::var_os("PATH").unwrap_or_default();
-    let mut found = env::split_paths(&path).filter_map(|at| fs::canonicalize(at.join("rt")).ok());
-    let rt = found.next().expect("rt is in one of the folders of PATH");
-    rt.ancestors().nth(2).expect("rt is in bin/").to_path_buf()
-}
-
-/// The program, run as `rt check` runs it: it is for x86-64, with the kit's loader and C library, and
-/// for another processor the kit has an emulator.
+/// The program, where `rt ci` and `rt run` leave what they proved and built.
 fn program() -> Command {
-    let program = Path::new(env!("CARGO_MANIFEST_DIR")).join("../target/bin/assemble_stdin");
+    let folder = Path::new(env!("CARGO_MANIFEST_DIR")).join("../crates/assemble_stdin");
+    let program = folder.join("out/assemble_stdin");
     assert!(
         program.exists(),
-        "missing; make it: rt check assemble_stdin"
+        "missing; make it: (cd crates/assemble_stdin && rt run </dev/null)"
     );
-    let tools = kit().join("on").join(env::consts::ARCH).join("toolchain");
-    let loader = tools.join("lib/ld-linux-x86-64.so.2");
-    let emulator = tools.join("bin/qemu-x86_64");
-    let mut command = Command::new(&loader);
-    if emulator.exists() {
-        command = Command::new(emulator);
-        command.arg(loader);
-    }
-    let library = tools.join("lib");
-    command.arg("--library-path").arg(library).arg(program);
-    command
+    Command::new(program)
 }
 
 /// What the program writes for a text: standard output, and standard error.
@@ -114,4 +93,19 @@ fn a_text_may_have_65536_bytes_and_no_more() {
     let (longer, _) = calls_and_breaks(10_917, 5);
     assert_eq!(longer.len(), LONGEST + 1);
     check_refused(&longer, "too long");
+}
+
+/// A folder cannot be read, and `/dev/full` takes nothing.
+#[test]
+fn a_failed_read_or_write_is_an_error() {
+    let unreadable = File::open(env!("CARGO_MANIFEST_DIR")).expect("there");
+    let output = program().stdin(unreadable).output().expect("it runs");
+    assert_eq!((output.status.code(), output.stdout), (Some(1), vec![]));
+    let folder = Folder::new();
+    let input = File::open(folder.write("text", LINES.as_bytes())).expect("there");
+    let full = OpenOptions::new().write(true).open("/dev/full");
+    let mut command = program();
+    command.stdin(input).stdout(full.expect("there"));
+    let output = command.output().expect("it runs");
+    assert_eq!(output.status.code(), Some(1));
 }

@@ -6,18 +6,25 @@
 use std::path::{Path, PathBuf};
 
 /// A public function and what it promises.
-#[derive(Debug, PartialEq, Eq)]
+#[derive(Clone, Debug, PartialEq, Eq)]
 pub struct Contract {
     /// `crate::function`, or `crate::Type::function`.
     pub name: String,
-    /// The parameters that are lent to be changed.
-    pub lent: Vec<String>,
+    /// The type parameters and their bounds, as `R: Read, W: Write`.
+    pub generics: String,
+    pub parameters: Vec<Parameter>,
     /// How often `&mut` stands in the signature.
     pub mutable: usize,
-    /// Whether it answers anything.
-    pub answers: bool,
+    /// The type of what it answers; empty if it answers nothing.
+    pub answer: String,
     pub requires: Vec<String>,
     pub ensures: Vec<String>,
+}
+
+#[derive(Clone, Debug, PartialEq, Eq)]
+pub struct Parameter {
+    pub name: String,
+    pub kind: String,
 }
 
 /// The root of the repository.
@@ -79,30 +86,43 @@ fn public_function(line: &str) -> Option<&str> {
 }
 
 fn contract(owner: &str, head: &str) -> Contract {
-    let (name, rest) = head.split_once('(').expect("parameters");
     let signature = head.split("\nrequires").next().unwrap_or(head);
     let signature = signature.split("\nensures").next().unwrap_or(signature);
-    let clauses = |word: &str| -> Vec<String> {
-        head.lines()
-            .filter_map(|line| line.strip_prefix(word)?.trim().strip_prefix('{'))
-            .map(|clause| clause.trim_end_matches('}').trim().to_string())
-            .collect()
-    };
+    let (front, rest) = signature.split_once('(').expect("parameters");
+    let (name, generics) = front.split_once('<').unwrap_or((front, ""));
+    let (inner, after) = rest.split_once(')').expect("the parameters' end");
+    let answer = after.trim().strip_prefix("->").unwrap_or("");
     Contract {
         name: format!("{owner}{name}"),
-        lent: lent(rest.split_once(')').expect("the parameters' end").0),
+        generics: generics.trim_end_matches('>').to_string(),
+        parameters: parameters(inner),
         mutable: signature.matches("&mut").count(),
-        answers: signature.contains("->"),
-        requires: clauses("requires"),
-        ensures: clauses("ensures"),
+        answer: answer.trim_end_matches('{').trim().to_string(),
+        requires: clauses(head, "requires"),
+        ensures: clauses(head, "ensures"),
     }
 }
 
-fn lent(parameters: &str) -> Vec<String> {
-    let pairs = parameters.split(',').filter_map(|p| p.split_once(':'));
+/// What is claimed in the clauses that begin with this word, each a line: `requires { CLAIM }` or
+/// `requires name { CLAIM }`. Of a clause that is no such line the claim is empty, which is no equation.
+fn clauses(head: &str, word: &str) -> Vec<String> {
+    let rests = head.lines().filter_map(|line| line.strip_prefix(word));
+    rests
+        .map(|rest| {
+            let claim = rest.split_once('{').map(|(_, claim)| claim.trim());
+            let claim = claim.and_then(|claim| claim.strip_suffix('}'));
+            claim.unwrap_or_default().trim().to_string()
+        })
+        .collect()
+}
+
+fn parameters(inner: &str) -> Vec<Parameter> {
+    let pairs = inner.split(',').filter_map(|p| p.split_once(':'));
     pairs
-        .filter(|(_, kind)| kind.trim().starts_with("&mut"))
-        .map(|(name, _)| name.trim().to_string())
+        .map(|(name, kind)| Parameter {
+            name: name.trim().to_string(),
+            kind: kind.trim().to_string(),
+        })
         .collect()
 }
 
@@ -113,7 +133,7 @@ const BUNDLES: [&str; 8] = [
     "masked",
     "board",
     "bench",
-    "sharedBench",
+    "shared_bench",
     "state",
     "tt",
 ];
@@ -122,19 +142,29 @@ const BUNDLES: [&str; 8] = [
 const MASKS: &str = "(masks own other) ";
 
 impl Contract {
+    /// The parameters that are lent to be changed.
+    pub fn lent(&self) -> Vec<&str> {
+        let all = self.parameters.iter();
+        let lent = all.filter(|parameter| parameter.kind.starts_with("&mut"));
+        lent.map(|parameter| parameter.name.as_str()).collect()
+    }
+
+    /// Whether it is for any reader or writer, of which no clause can say what they give or take.
+    pub fn has_streams(&self) -> bool {
+        let mut bounds = self.generics.split([',', ':', '+']).map(str::trim);
+        bounds.any(|bound| bound == "Read" || bound == "Write")
+    }
+
     /// What is wrong with its form, if anything.
     pub fn flaw(&self) -> Option<&'static str> {
-        if self.lent.len() != self.mutable {
+        if self.lent().len() != self.mutable {
             return Some("something is lent that was not read");
         }
-        let [ensures] = &self.ensures[..] else {
+        let [claim] = &self.ensures[..] else {
             return Some("not one ensures");
         };
-        let Some((result, claim)) = parts(ensures) else {
-            return Some("not a claim about the result");
-        };
         if let Some(text) = claim.strip_prefix("Wrote ") {
-            return self.writer_flaw(result, text);
+            return self.writer_flaw(text);
         }
         let sides: Vec<&str> = claim.split(" ≡ ").collect();
         let [left, right] = sides[..] else {
@@ -143,47 +173,66 @@ impl Contract {
         if !is_whole(left) || !is_whole(right) {
             return Some("the equation is a part of something else");
         }
-        self.bundle_flaw(result, left).or(input_flaw(result, right))
+        self.bundle_flaw(left).or(self.input_flaw(right))
     }
 
     /// The left side is the result and every lent buffer at exit, each once, and nothing else.
-    fn bundle_flaw(&self, result: &str, left: &str) -> Option<&'static str> {
-        let mut rest = left.replacen(MASKS, "", 1);
-        for name in &self.lent {
-            let exit = format!("now ({name} .exit)");
-            if rest.matches(&exit).count() != 1 {
-                return Some("a lent buffer is not on the left once");
-            }
-            rest = rest.replace(&exit, "");
+    fn bundle_flaw(&self, left: &str) -> Option<&'static str> {
+        let rest = left.replacen(MASKS, "", 1);
+        let exits: Vec<String> = self.lent().iter().map(|b| format!("{b}.new")).collect();
+        let count = |one: &str| words(&rest).filter(|word| *word == one).count();
+        if exits.iter().any(|exit| count(exit) != 1) {
+            return Some("a lent buffer is not on the left once");
         }
-        let results = words(&rest).filter(|word| *word == result).count();
-        if results != usize::from(self.answers) {
+        if count("result") != usize::from(!self.answer.is_empty()) {
             return Some("the result is not on the left once");
         }
-        let known = |word: &str| word == result || BUNDLES.contains(&word);
+        let known = |word: &str| {
+            word == "result" || BUNDLES.contains(&word) || exits.iter().any(|exit| exit == word)
+        };
         let is_bundle = words(&rest).all(known);
         (!is_bundle).then_some("the left is no bundle")
     }
 
     /// `Wrote before at TEXT after end`: both equations of `Wrote` are of this form.
-    fn writer_flaw(&self, result: &str, text: &str) -> Option<&'static str> {
-        let inner = text.strip_prefix("(now (room .entry)) at ");
-        let inner = inner.and_then(|t| t.strip_suffix(&format!(" (now (room .exit)) {result}")));
+    fn writer_flaw(&self, text: &str) -> Option<&'static str> {
+        let inner = text.strip_prefix("room.old at ");
+        let inner = inner.and_then(|t| t.strip_suffix(" room.new result"));
         let Some(inner) = inner else {
             return Some("not what a writer promises");
         };
-        if self.lent != ["room"] || !self.answers {
+        if self.lent() != ["room"] || self.answer.is_empty() {
             return Some("not a writer");
         }
-        input_flaw(result, inner)
+        if !is_whole(inner) {
+            return Some("the writer's promise is a part of something else");
+        }
+        self.input_flaw(inner)
     }
-}
 
-/// The right side speaks of the input alone: a buffer in it is the buffer at entry.
-fn input_flaw(result: &str, right: &str) -> Option<&'static str> {
-    let speaks = right.contains(".exit") || words(right).any(|word| word == result);
-    let times = right.matches("now ").count() != right.matches(" .entry)").count();
-    (speaks || times).then_some("the right speaks of the outcome")
+    /// The right side speaks of the input alone: a buffer in it is the buffer at entry.
+    fn input_flaw(&self, right: &str) -> Option<&'static str> {
+        let is_of_a_name = |c: char| c.is_alphanumeric() || c == '_' || c == '.';
+        right
+            .split(|c| !is_of_a_name(c))
+            .any(|name| !self.is_input(name))
+            .then_some("the right speaks of the outcome")
+    }
+
+    /// Whether a name in a clause, with what is taken of it, is of the input: `b.old` of what is lent to be
+    /// changed, `b.now` of what is lent to be read, and neither a reference by itself nor the outcome.
+    fn is_input(&self, name: &str) -> bool {
+        let parts: Vec<&str> = name.split('.').collect();
+        if parts.iter().any(|part| ["result", "new"].contains(part)) {
+            return false;
+        }
+        let (first, time) = (parts[0], parts.get(1).copied());
+        match self.parameters.iter().find(|p| p.name == first) {
+            Some(p) if p.kind.starts_with("&mut") => time == Some("old"),
+            Some(p) if p.kind.starts_with('&') => time == Some("now"),
+            _ => true,
+        }
+    }
 }
 
 /// One side of an equation and nothing beside it: its brackets match, and nothing joins it to
@@ -199,12 +248,6 @@ fn is_whole(side: &str) -> bool {
     depth == 0
 }
 
-/// `λ r. ⌜ CLAIM ⌝` as r and the claim.
-fn parts(ensures: &str) -> Option<(&str, &str)> {
-    let (result, claim) = ensures.strip_prefix("λ ")?.split_once(". ⌜ ")?;
-    Some((result, claim.strip_suffix(" ⌝")?))
-}
-
 fn words(text: &str) -> impl Iterator<Item = &str> {
     text.split([' ', '(', ')', ','])
         .filter(|word| !word.is_empty())
@@ -217,8 +260,10 @@ pub fn document() -> String {
     let mut page = String::from(
         "# Public contracts\n\nMade from the sources by `make contracts`; a test compares the two, and \
          looks whether each contract is one equation of all that a call answers and leaves to what a \
-         definition says of its input (`host/contracts`). In it `now (b .entry)` is the buffer b \
-         before the call and `now (b .exit)` after it.\n\n## For every input\n\n| Function | Ensures |\n|---|---|\n",
+         definition says of its input (`host/contracts`); of what is read from a stream no definition \
+         can say it ([EXCEPTIONS.md](EXCEPTIONS.md)). In a clause `result` is what the call answers, \
+         `b.old` is the buffer b before the call and `b.new` after it, and `b.now` a buffer that is \
+         only read.\n\n## For every input\n\n| Function | Ensures |\n|---|---|\n",
     );
     for c in open {
         page += &format!("| `{}` | {} |\n", c.name, code(&c.ensures));

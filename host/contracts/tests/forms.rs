@@ -2,19 +2,33 @@
 //! asks anything of its caller.
 use contracts::{all, contracts, document, root, Contract};
 
-// The public functions that answer and leave nothing: docs/EXCEPTIONS.md says why.
-const NO_CONTRACT: [&str; 2] = ["image_io::list_from", "assembly_io::assemble_from"];
+// The public functions that read from a stream, and what they promise all the same: no clause can say what
+// a stream gives or takes, and docs/EXCEPTIONS.md says more.
+const STREAMS: [(&str, &[&str]); 3] = [
+    ("assembly_io::assemble_from", &[]),
+    ("image_io::list_from", &[]),
+    (
+        "reading::read_full",
+        &[
+            "IfOk result (λ n. n ≤ length room.new)",
+            "length room.new ≡ length room.old",
+        ],
+    ),
+];
 
 #[test]
 fn every_public_contract_is_an_equation() {
     let all = all();
     assert!(all.len() > 70, "only {} functions were found", all.len());
-    for c in all {
-        if NO_CONTRACT.contains(&c.name.as_str()) {
-            assert!(c.lent.is_empty() && !c.answers, "{}", c.name);
-        } else {
-            assert_eq!(c.flaw(), None, "{}", c.name);
-        }
+    let (streams, others): (Vec<_>, Vec<_>) = all.iter().partition(|c| c.has_streams());
+    assert_eq!(streams.len(), STREAMS.len());
+    for (c, (name, ensures)) in streams.iter().zip(STREAMS) {
+        assert_eq!(c.name, name);
+        assert_eq!(c.ensures, ensures, "{name}");
+        assert!(c.requires.is_empty(), "{name}");
+    }
+    for c in others {
+        assert_eq!(c.flaw(), None, "{}", c.name);
     }
 }
 
@@ -57,16 +71,64 @@ fn entries_and_exports_ask_nothing() {
     for c in called {
         assert!(c.requires.is_empty(), "{}", c.name);
     }
-    for c in all.iter().filter(|c| c.name.starts_with("c_")) {
+    let of_c = |c: &&Contract| c.name.starts_with("c_") || c.name.starts_with("phuyurik::");
+    for c in all.iter().filter(of_c) {
         assert!(is_export(c), "{}", c.name);
+    }
+}
+
+/// Each export of the static library stands under the contract of the function that it calls, word for
+/// word: that of the same name in the one crate `c_..` that has it.
+#[test]
+fn exports_have_the_contracts_of_what_they_call() {
+    let all = all();
+    let of = |start: &str| -> Vec<&Contract> {
+        all.iter().filter(|c| c.name.starts_with(start)).collect()
+    };
+    let (exports, called) = (of("phuyurik::"), of("c_"));
+    assert_eq!((exports.len(), called.len()), (19, 19));
+    for export in exports {
+        let name = export.name.strip_prefix("phuyurik").expect("its crate");
+        let same = called.iter().filter(|c| c.name.ends_with(name));
+        let [one] = same.collect::<Vec<_>>()[..] else {
+            panic!("{name} is not in one of the crates c_..");
+        };
+        let as_export = Contract {
+            name: export.name.clone(),
+            ..Contract::clone(one)
+        };
+        assert_eq!(*export, as_export);
     }
 }
 
 #[test]
 fn what_is_lent_is_read() {
     let methods =
-        "impl S {\n    pub fn f(&mut self) -> u8\n        ensures { λ r. ⌜ r ≡ s ⌝ }\n    {\n";
+        "impl S {\n    pub fn f(&mut self) -> u8\n        ensures { result ≡ s }\n    {\n";
     assert!(contracts("some", methods)[0].flaw().is_some());
+}
+
+#[test]
+fn clauses_of_every_form_are_read() {
+    let text = "#[derive(Clone)]\npub struct S;\n\npub fn f<R: Read>(\n    input: &mut R,\n    \
+                room: &mut [u8],\n) -> io::Result<usize>\n    requires { a }\n    requires some { b }\n    \
+                ensures { c }\n    ensures other { d {0} }\n{\n";
+    let [f] = &contracts("some", text)[..] else {
+        panic!("one function");
+    };
+    assert_eq!((&*f.name, &*f.generics), ("some::f", "R: Read"));
+    assert_eq!((&*f.answer, f.mutable), ("io::Result<usize>", 2));
+    assert_eq!(f.lent(), ["input", "room"]);
+    assert_eq!(f.requires, ["a", "b"]);
+    assert_eq!(f.ensures, ["c", "d {0}"]);
+    assert!(f.has_streams());
+    assert_eq!(f.flaw(), Some("not one ensures"));
+}
+
+#[test]
+fn a_clause_of_several_lines_is_a_flaw() {
+    let text = "pub fn f(s: u32) -> u32\n    ensures {\n        result ≡ s\n    }\n{\n";
+    assert!(contracts("some", text)[0].flaw().is_some());
 }
 
 #[test]
@@ -79,10 +141,10 @@ fn the_document_is_that_of_the_sources() {
     );
 }
 
-/// A function `pub fn f(s: u32, m: &mut [u8], k: &[u8])` with this result and promise.
-fn function(result: &str, ensures: &str) -> Contract {
+/// A function `pub fn f(s: u32, m: &mut [u8], k: &[u8])` with this answer and promise.
+fn function(answer: &str, ensures: &str) -> Contract {
     let text = format!(
-        "pub fn f(s: u32, m: &mut [u8], k: &[u8]){result}\n    ensures {{ {ensures} }}\n{{\n"
+        "pub fn f(s: u32, m: &mut [u8], k: &[u8]){answer}\n    ensures {{ {ensures} }}\n{{\n"
     );
     let mut found = contracts("some", &text);
     assert_eq!(found.len(), 1);
@@ -91,13 +153,10 @@ fn function(result: &str, ensures: &str) -> Contract {
 
 #[test]
 fn equations_of_everything_pass() {
-    let of_both = function(
-        " -> u8",
-        "λ r. ⌜ outcome r (now (m .exit)) ≡ f s (now (m .entry)) ⌝",
-    );
+    let of_both = function(" -> u8", "outcome result m.new ≡ f s m.old k.now");
     assert_eq!(of_both.name, "some::f");
     assert_eq!(of_both.flaw(), None);
-    let of_the_buffer = function("", "λ _. ⌜ now (m .exit) ≡ f s (now (m .entry)) ⌝");
+    let of_the_buffer = function("", "m.new ≡ f s m.old");
     assert_eq!(of_the_buffer.flaw(), None);
 }
 
@@ -105,42 +164,63 @@ fn equations_of_everything_pass() {
 fn other_forms_are_flaws() {
     let flaws = [
         // the buffer, or the result, is free
-        (" -> u8", "λ r. ⌜ r ≡ f s (now (m .entry)) ⌝"),
-        (" -> u8", "λ r. ⌜ now (m .exit) ≡ f s (now (m .entry)) ⌝"),
+        (" -> u8", "result ≡ f s m.old"),
+        (" -> u8", "m.new ≡ f s m.old"),
         // a bound and no equation; two equations in one
-        (" -> u8", "λ r. ⌜ r ≤ s ⌝"),
-        (
-            " -> u8",
-            "λ r. ⌜ (outcome r (now (m .exit)) ≡ f s) × (r ≡ s) ⌝",
-        ),
-        // something of the result, not the result; the outcome on the right
-        (" -> u8", "λ r. ⌜ outcome (low 5 r) (now (m .exit)) ≡ f s ⌝"),
-        (" -> u8", "λ r. ⌜ outcome r (now (m .exit)) ≡ f s r ⌝"),
-        (
-            " -> u8",
-            "λ r. ⌜ outcome r (now (m .exit)) ≡ f (now (m .exit)) ⌝",
-        ),
+        (" -> u8", "result ≤ s"),
+        (" -> u8", "(outcome result m.new ≡ f s) × (result ≡ s)"),
+        // something of the result or of the buffer, not the whole
+        (" -> u8", "outcome (low 5 result) m.new ≡ f s"),
+        (" -> u8", "outcome result.low m.new ≡ f s"),
+        (" -> u8", "outcome result m.new.low ≡ f s"),
+        (" -> u8", "outcome result (head m.new) ≡ f s"),
+        // the buffer twice, or as it was
+        (" -> u8", "outcome result (board m.new m.new) ≡ f s"),
+        (" -> u8", "outcome result m.old ≡ f s"),
+        // the outcome on the right
+        (" -> u8", "outcome result m.new ≡ f s result"),
+        (" -> u8", "outcome result m.new ≡ f s result.low"),
+        (" -> u8", "outcome result m.new ≡ f m.new"),
+        (" -> u8", "outcome result m.new ≡ f [m.new]"),
         // an equation that is only a part: of an or, of a negation
-        (
-            " -> u8",
-            "λ r. ⌜ (outcome r (now (m .exit)) ≡ f s) ⊎ Unit {0} ⌝",
-        ),
-        (
-            " -> u8",
-            "λ r. ⌜ outcome r (now (m .exit)) ≡ f s ⊎ (s < 4) ⌝",
-        ),
-        (" -> u8", "λ r. ⌜ outcome r (now (m .exit)) ≡ f s → ⊥ ⌝"),
+        (" -> u8", "(outcome result m.new ≡ f s) ⊎ Unit {0}"),
+        (" -> u8", "outcome result m.new ≡ f s ⊎ (s < 4)"),
+        (" -> u8", "outcome result m.new ≡ f s → ⊥"),
         // a buffer at no time
-        (" -> u8", "λ r. ⌜ outcome r (now (m .exit)) ≡ f (now m) ⌝"),
+        (" -> u8", "outcome result m.new ≡ f m"),
+        (" -> u8", "outcome result m.new ≡ f m.now"),
+        (" -> u8", "outcome result m.new ≡ f k"),
         // an unknown predicate
-        (" -> u8", "λ r. ⌜ Good r (now (m .exit)) ⌝"),
+        (" -> u8", "Good result m.new"),
         // a writer that leaves its end free
-        (
-            " -> u8",
-            "λ r. ⌜ Wrote (now (room .entry)) at s (now (room .exit)) s ⌝",
-        ),
+        (" -> u8", "Wrote room.old at s room.new s"),
     ];
-    for (result, ensures) in flaws {
-        assert!(function(result, ensures).flaw().is_some(), "{ensures}");
+    for (answer, ensures) in flaws {
+        assert!(function(answer, ensures).flaw().is_some(), "{ensures}");
+    }
+}
+
+/// A writer into a room, with this promise.
+fn writer(ensures: &str) -> Contract {
+    let text = format!(
+        "pub fn put(room: &mut [u8], at: usize, s: u32) -> usize\n    ensures {{ {ensures} }}\n{{\n"
+    );
+    contracts("some", &text).remove(0)
+}
+
+#[test]
+fn writers_say_what_they_wrote_and_where_it_ends() {
+    let whole = writer("Wrote room.old at (decimal s) room.new result");
+    assert_eq!(whole.flaw(), None);
+    let flaws = [
+        "Wrote room.old at (decimal s) room.new s",
+        "Wrote room.new at (decimal s) room.new result",
+        "Wrote room.old s (decimal s) room.new result",
+        "Wrote room.old at (decimal result) room.new result",
+        "Wrote room.old at room.new room.new result",
+        "Wrote room.old at s room.old s ⊎ Wrote room.old at s room.new result",
+    ];
+    for ensures in flaws {
+        assert!(writer(ensures).flaw().is_some(), "{ensures}");
     }
 }
