@@ -20,7 +20,7 @@ BEGIN {
 # NAME: DEP DEP   # GROUP: what it is
 /^[^#]*:/ {
     name = uses = said = $0
-    sub(/:.*/, "", name)
+    sub(/:.*/, "", name); sub(/ .*/, "", name)
     sub(/^[^:]*:/, "", uses); sub(/#.*/, "", uses)
     sub(/^[^#]*#? */, "", said)
     colon = index(said, ": ")
