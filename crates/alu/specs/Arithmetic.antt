@@ -1,5 +1,5 @@
 -- What each operation of RV32I and RV32M computes (the manual's sections 2.4, 2.5 and 7.1, 7.2), of two register values or of a register's value and an immediate.
--- Of integers, `quot_z` is the quotient rounded toward zero, `rem_z` the remainder with the sign of the dividend, `lt_z` and `le_z` are < and ≤.
+-- Of integers, `int_div` is the quotient rounded toward zero, `int_rem` the remainder with the sign of the dividend, `int_lt` and `int_le` are < and ≤.
 use Rattle.std.specs.Prelude.{ℕ, ◌+◌, ◌-◌, ◌*◌, ◌/◌, ◌%◌, ◌^◌, Bool, cond, not, pos, ◌*ℤ◌, ◌==◌, bit_and, bit_or, bit_xor, int_div, int_le, int_lt, int_rem, nat_le, nat_lt}
 use Rattle.std.specs.Int.Signed.{shr_z}
 use Rattle.word.specs.Bits.{flag}
