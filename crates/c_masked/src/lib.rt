@@ -1,5 +1,4 @@
-// The C interface, steps and runs with masks. A crate of its own, so that the calls without masks are compiled
-// with the masks that they have.
+// The C interface, steps and runs with masks: apart from those without, which are compiled with the masks that they have.
 #![tactic(auto)]
 
 ghost use Rattle.std.specs.Prelude.{◌≡◌};

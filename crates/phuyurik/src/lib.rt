@@ -1,18 +1,13 @@
-// The C interface: each export is the function of that name in the library below, under the same contract.
+// The C interface but for runs: each export is the function of that name in the library below, under the same contract.
 #![tactic(auto)]
 
 ghost use Rattle.std.specs.Prelude.{◌≡◌};
 ghost use Rattle.answers.specs.Outcomes.{outcome};
 ghost use Rattle.c_codes.specs.Codes.{version, chart_call, decode_call, expand_call};
 ghost use Rattle.c_insts.specs.Insts.{encode_call, shorten_call};
-ghost use Rattle.answers.specs.Replies.{told};
-ghost use Rattle.disassembler.specs.Entries.{of_written};
 ghost use Rattle.c_texts.specs.Texts.{word_text_call, half_text_call, inst_text_call, list_call};
 ghost use Rattle.c_assembly.specs.Assembly.{assemble_call};
 ghost use Rattle.c_slots.specs.Slots.{write_call, read_call};
-ghost use Rattle.run_calls.specs.Runs.{step_call, run_call, resume_call};
-ghost use Rattle.boards.specs.Boards.{board, masks};
-ghost use Rattle.resume.specs.Resuming.{bench, shared_bench};
 
 // The version of this interface.
 #[unsafe(no_mangle)]
@@ -128,99 +123,4 @@ pub extern "C" fn phuyurik_read_slot(state: &mut [u8; 144], slots: &[u8], k: usi
     ensures { outcome result (state.new, tt) ≡ read_call k slots.now state.old }
 {
     c_slots::phuyurik_read_slot(state, slots, k)
-}
-
-// One step. Refuses with 1, 2, 3, 5, 14 and 15.
-#[unsafe(no_mangle)]
-pub extern "C" fn phuyurik_step(
-    state: &mut [u8; 144],
-    mem: &mut [u8],
-    row: &mut [u8],
-    word: &mut usize,
-) -> u32
-    ensures { outcome result (word.new, bench (board mem.new row.new) state.new) ≡ step_call (bench (board mem.old row.old) state.old) word.old }
-{
-    c_runs::phuyurik_step(state, mem, row, word)
-}
-
-// A run of at most budget steps. Refuses with 1, 2, 3, 5, 14 and 15.
-#[unsafe(no_mangle)]
-pub extern "C" fn phuyurik_run(
-    state: &mut [u8; 144],
-    mem: &mut [u8],
-    row: &mut [u8],
-    budget: u64,
-    retired: &mut u64,
-    word: &mut usize,
-) -> u32
-    ensures { outcome result ((retired.new, word.new), bench (board mem.new row.new) state.new) ≡ run_call budget (bench (board mem.old row.old) state.old) retired.old word.old }
-{
-    c_runs::phuyurik_run(state, mem, row, budget, retired, word)
-}
-
-// Reads slot k, runs it for at most budget steps and writes it back. Refuses with 1 to 5, 14 and 15.
-#[unsafe(no_mangle)]
-pub extern "C" fn phuyurik_run_slot(
-    mem: &mut [u8],
-    row: &mut [u8],
-    slots: &mut [u8],
-    k: usize,
-    budget: u64,
-    retired: &mut u64,
-    word: &mut usize,
-) -> u32
-    ensures { outcome result ((retired.new, word.new), bench (board mem.new row.new) slots.new) ≡ resume_call budget k (bench (board mem.old row.old) slots.old) retired.old word.old }
-{
-    c_runs::phuyurik_run_slot(mem, row, slots, k, budget, retired, word)
-}
-
-// One step. Refuses with 1, 2, 3, 16, 5, 14 and 15.
-#[unsafe(no_mangle)]
-pub extern "C" fn phuyurik_step_masked(
-    state: &mut [u8; 144],
-    mem: &mut [u8],
-    row: &mut [u8],
-    own: u64,
-    other: u64,
-    word: &mut usize,
-) -> u32
-    ensures { outcome result (word.new, shared_bench (masks own other) (board mem.new row.new) state.new) ≡ step_call (shared_bench (masks own other) (board mem.old row.old) state.old) word.old }
-{
-    c_masked::phuyurik_step_masked(state, mem, row, own, other, word)
-}
-
-// A run of at most budget steps. Refuses with 1, 2, 3, 16, 5, 14 and 15.
-#[unsafe(no_mangle)]
-pub extern "C" fn phuyurik_run_masked(
-    state: &mut [u8; 144],
-    mem: &mut [u8],
-    row: &mut [u8],
-    own: u64,
-    other: u64,
-    budget: u64,
-    retired: &mut u64,
-    word: &mut usize,
-) -> u32
-    ensures { outcome result ((retired.new, word.new), shared_bench (masks own other) (board mem.new row.new) state.new) ≡ run_call budget (shared_bench (masks own other) (board mem.old row.old) state.old) retired.old word.old }
-{
-    c_masked::phuyurik_run_masked(state, mem, row, own, other, budget, retired, word)
-}
-
-// Reads slot k, runs it for at most budget steps and writes it back. Refuses with 1, 2, 3, 16, 4,
-// 5, 14 and 15.
-#[unsafe(no_mangle)]
-pub extern "C" fn phuyurik_run_slot_masked(
-    mem: &mut [u8],
-    row: &mut [u8],
-    slots: &mut [u8],
-    k: usize,
-    own: u64,
-    other: u64,
-    budget: u64,
-    retired: &mut u64,
-    word: &mut usize,
-) -> u32
-    ensures { outcome result ((retired.new, word.new), shared_bench (masks own other) (board mem.new row.new) slots.new) ≡ resume_call budget k (shared_bench (masks own other) (board mem.old row.old) slots.old) retired.old word.old }
-{
-    c_masked::phuyurik_run_slot_masked(mem, row, slots, k, own, other, budget, retired, word)
 }

@@ -71,7 +71,7 @@ fn entries_and_exports_ask_nothing() {
     for c in called {
         assert!(c.requires.is_empty(), "{}", c.name);
     }
-    let of_c = |c: &&Contract| c.name.starts_with("c_") || c.name.starts_with("phuyurik::");
+    let of_c = |c: &&Contract| c.name.starts_with("c_") || c.name.starts_with("phuyurik");
     for c in all.iter().filter(of_c) {
         assert!(is_export(c), "{}", c.name);
     }
@@ -85,11 +85,12 @@ fn exports_have_the_contracts_of_what_they_call() {
     let of = |start: &str| -> Vec<&Contract> {
         all.iter().filter(|c| c.name.starts_with(start)).collect()
     };
-    let (exports, called) = (of("phuyurik::"), of("c_"));
+    let (exports, called) = (of("phuyurik"), of("c_"));
     assert_eq!((exports.len(), called.len()), (19, 19));
     for export in exports {
-        let name = export.name.strip_prefix("phuyurik").expect("its crate");
-        let same = called.iter().filter(|c| c.name.ends_with(name));
+        let (_, name) = export.name.split_once("::").expect("its crate");
+        let of_that_name = format!("::{name}");
+        let same = called.iter().filter(|c| c.name.ends_with(&of_that_name));
         let [one] = same.collect::<Vec<_>>()[..] else {
             panic!("{name} is not in one of the crates c_..");
         };
