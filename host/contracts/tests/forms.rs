@@ -77,7 +77,7 @@ fn entries_and_exports_ask_nothing() {
     }
 }
 
-/// Each export of the static library stands under the contract of the function that it calls, word for
+/// Each export of a static library stands under the contract of the function that it calls, word for
 /// word: that of the same name in the one crate `c_..` that has it.
 #[test]
 fn exports_have_the_contracts_of_what_they_call() {
