@@ -519,6 +519,11 @@ fn full_output() -> (UnixStream, UnixStream) {
     (full, reader)
 }
 
+/// Not only dropped: a process that another test has just started may still have the file open.
+fn let_go(lock: &File) {
+    lock.unlock().expect("let go");
+}
+
 /// A run in slot 0 that has saved its end and let its locks go, and cannot print.
 fn before_it_prints(folder: &Folder, line: &str) -> (Child, UnixStream) {
     let (full, reader) = full_output();
@@ -531,7 +536,9 @@ fn before_it_prints(folder: &Folder, line: &str) -> (Child, UnixStream) {
     };
     let is_free = |name: &str| {
         let lock = File::open(folder.file(name)).expect("there");
-        lock.try_lock().is_ok()
+        let is_free = lock.try_lock().is_ok();
+        let_go(&lock);
+        is_free
     };
     let clock = Instant::now();
     while !(has_ended() && is_free("part.row.lock") && is_free("line.slots.0.lock")) {
@@ -599,7 +606,7 @@ fn an_end_is_marked_as_told_only_where_it_is_still_the_slots_own() {
     reader.read_to_end(&mut read).expect("read");
     assert!(read.ends_with(b"word 1 burnt with 101 (0x00000065) in this run\n"));
     assert_eq!(first.wait().expect("over").code(), Some(0));
-    drop(held);
+    let_go(&held);
     tells_its_end(&folder);
 
     let folder = with_words(2);

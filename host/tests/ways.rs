@@ -747,6 +747,6 @@ fn what_a_run_holds_is_busy() {
     let held = hold(&bench.file("part.row.lock"));
     let at_work = "part.row: 2 burnt, 62 blank (a run is at work on it";
     assert!(bench.status().contains(at_work));
-    drop(held);
+    held.unlock().expect("let go");
     bench.comes_to_its_end("part.row", 0);
 }
