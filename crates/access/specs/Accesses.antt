@@ -1,5 +1,5 @@
 -- What a load or a store comes to, on the board b: main memory and the fuse row, of which only the words of the mask `own` may be loaded and stored.
-use Rattle.std.specs.Prelude.{ℕ, cond, List, length}
+use Rattle.std.specs.Prelude.{ℕ, cond, List, length, Ok, Err}
 use Rattle.word.specs.Bits.{sext}
 use Rattle.answers.specs.Outcomes.{Outcome, outcome}
 use Rattle.answers.specs.Stops.{cause}
@@ -17,9 +17,7 @@ use Rattle.octets.specs.declared.Width.TheVariants.{One, Two, Four}
 use Rattle.place.specs.Map.{placed}
 use Rattle.place.specs.declared.Place.{Place}
 use Rattle.place.specs.declared.Place.TheVariants.{Memory, Fuse, Misaligned, Outside}
-use Rattle.fuses.specs.Row.{value_at, word_stored, owns}
-use Rattle.fuses.specs.declared.Stored.{Stored}
-use Rattle.fuses.specs.declared.Stored.TheVariants as F
+use Rattle.fuses.specs.Row.{Stored, value_at, word_stored, owns}
 use Rattle.boards.specs.Boards.{Board, board}
 use Rattle.access.specs.declared.Effect.{Effect}
 use Rattle.access.specs.declared.Effect.TheVariants.{Next, Halt}
@@ -76,8 +74,8 @@ on_to next = Next x0 0 next
 
 -- what comes of a store to a word of the row at the address a: at a burnt word it stops
 abbrev pub of_stored : Stored → ℕ → ℕ → Effect
-of_stored F.Done a next = on_to next
-of_stored F.AlreadyBurnt a next = Halt (cause AlreadyBurnt a)
+of_stored (Ok u) a next = on_to next
+of_stored (Err e) a next = Halt (cause AlreadyBurnt a)
 
 -- to word k of the row f, at the address a: at a word that is not its own it stops, whatever v is
 unfoldable pub stored_in_row : ℕ → ℕ → ℕ → ℕ → ℕ → List ℕ → Outcome Effect (List ℕ)

@@ -12,14 +12,15 @@ ghost use Rattle.access.specs.declared.Effect.TheVariants as E;
 ghost use Rattle.access.specs.Accesses.{load_width, extended, loaded_from_row, loaded, on_to, store_width, stored_in_row, stored};
 
 use answers::{Cause, Stop};
-use fuses::{Stored, is_own, store_word, value_of};
+use fuses::{AlreadyBurnt, RowBytes, is_own, store_word, value_of};
 use isa::{LoadOp, Reg, StoreOp};
-use octets::{Width, load1, load2, load4};
+use octets::Width;
 use place::{Place, place_of};
 use stores::store_of;
 use word::sign_extend;
 
 // What an instruction does: a register gets a value and the next instruction is at pc, or the run stops.
+// No `Result`: a stop is no failure, it is how a recipe ends, and is applied to the state like any effect.
 #[derive(Clone, Copy)]
 pub enum Effect {
     Next { rd: Reg, value: u32, pc: u32 },
@@ -30,11 +31,9 @@ fn load_width(op: LoadOp) -> Width
     ensures { result ≡ load_width op }
 {
     match op {
-        LoadOp::Lb => Width::One,
-        LoadOp::Lh => Width::Two,
+        LoadOp::Lb | LoadOp::Lbu => Width::One,
+        LoadOp::Lh | LoadOp::Lhu => Width::Two,
         LoadOp::Lw => Width::Four,
-        LoadOp::Lbu => Width::One,
-        LoadOp::Lhu => Width::Two,
     }
 }
 
@@ -54,11 +53,11 @@ fn extended_load(op: LoadOp, mem: &[u8], at: usize) -> u32
     ensures { result ≡ extended op (load (width_bytes (load_width op)) at mem.now) }
 {
     match op {
-        LoadOp::Lb => sign_extend(load1(mem, at) as u32, 8),
-        LoadOp::Lh => sign_extend(load2(mem, at) as u32, 16),
-        LoadOp::Lw => load4(mem, at),
-        LoadOp::Lbu => load1(mem, at) as u32,
-        LoadOp::Lhu => load2(mem, at) as u32,
+        LoadOp::Lb => sign_extend(octets::load::<1>(mem, at) as u32, 8),
+        LoadOp::Lh => sign_extend(octets::load::<2>(mem, at) as u32, 16),
+        LoadOp::Lw => octets::load::<4>(mem, at) as u32,
+        LoadOp::Lbu => octets::load::<1>(mem, at) as u32,
+        LoadOp::Lhu => octets::load::<2>(mem, at) as u32,
     }
 }
 
@@ -66,16 +65,13 @@ fn extended_load(op: LoadOp, mem: &[u8], at: usize) -> u32
 fn not_owned(address: u32) -> Effect
     ensures { result ≡ E.Halt (cause S.NotOwned address) }
 {
-    Effect::Halt(Cause {
-        stop: Stop::NotOwned,
-        address,
-    })
+    Effect::Halt(Cause::new(Stop::NotOwned, address))
 }
 
 // A load into rd from word k of the row, which stands at an address.
-fn load_of_row(own: u64, row: &[u8], k: usize, rd: Reg, address: u32, next: u32) -> Effect
-    requires k_bound { k < 64 }
-    requires row_len { length row.now ≡ 512 }
+#[tactic(auto, unfolding(crate::specs::Accesses::loaded_from_row))]
+fn load_of_row(own: u64, row: &RowBytes, k: usize, rd: Reg, address: u32, next: u32) -> Effect
+    requires { k < 64 }
     ensures { result ≡ loaded_from_row own k rd address next row.now }
 {
     if !is_own(own, k) {
@@ -97,9 +93,8 @@ pub fn load(
     address: u32,
     next: u32,
     mem: &[u8],
-    row: &[u8],
+    row: &RowBytes,
 ) -> Effect
-    requires { length row.now ≡ 512 }
     ensures { result ≡ loaded own op rd address next (board mem.now row.now) }
 {
     let place = place_of(address, load_width(op), mem.len());
@@ -110,14 +105,8 @@ pub fn load(
             pc: next,
         },
         Place::Fuse(k) => load_of_row(own, row, k, rd, address, next),
-        Place::Misaligned => Effect::Halt(Cause {
-            stop: Stop::LoadMisaligned,
-            address,
-        }),
-        Place::Outside => Effect::Halt(Cause {
-            stop: Stop::LoadOutside,
-            address,
-        }),
+        Place::Misaligned => Effect::Halt(Cause::new(Stop::LoadMisaligned, address)),
+        Place::Outside => Effect::Halt(Cause::new(Stop::LoadOutside, address)),
     }
 }
 
@@ -133,21 +122,17 @@ fn on_to(next: u32) -> Effect
 }
 
 // A store of v to word k of the row, which stands at an address.
-fn store_in_row(own: u64, row: &mut [u8], k: usize, v: u32, address: u32, next: u32) -> Effect
-    requires k_bound { k < 64 }
-    requires row_len { length row.old ≡ 512 }
+#[tactic(auto, unfolding(crate::specs::Accesses::stored_in_row))]
+fn store_in_row(own: u64, row: &mut RowBytes, k: usize, v: u32, address: u32, next: u32) -> Effect
+    requires { k < 64 }
     ensures { outcome result row.new ≡ stored_in_row own k v address next row.old }
 {
     if !is_own(own, k) {
         return not_owned(address);
     }
-    let stored = store_word(row, k, v);
-    match stored {
-        Stored::Done => on_to(next),
-        Stored::AlreadyBurnt => Effect::Halt(Cause {
-            stop: Stop::AlreadyBurnt,
-            address,
-        }),
+    match store_word(row, k, v) {
+        Ok(()) => on_to(next),
+        Err(AlreadyBurnt) => Effect::Halt(Cause::new(Stop::AlreadyBurnt, address)),
     }
 }
 
@@ -160,9 +145,8 @@ pub fn store(
     address: u32,
     next: u32,
     mem: &mut [u8],
-    row: &mut [u8],
+    row: &mut RowBytes,
 ) -> Effect
-    requires { length row.old ≡ 512 }
     ensures { outcome result (board mem.new row.new) ≡ stored own op v address next (board mem.old row.old) }
 {
     let width = store_width(op);
@@ -173,13 +157,7 @@ pub fn store(
             on_to(next)
         }
         Place::Fuse(k) => store_in_row(own, row, k, v, address, next),
-        Place::Misaligned => Effect::Halt(Cause {
-            stop: Stop::StoreMisaligned,
-            address,
-        }),
-        Place::Outside => Effect::Halt(Cause {
-            stop: Stop::StoreOutside,
-            address,
-        }),
+        Place::Misaligned => Effect::Halt(Cause::new(Stop::StoreMisaligned, address)),
+        Place::Outside => Effect::Halt(Cause::new(Stop::StoreOutside, address)),
     }
 }

@@ -1,7 +1,8 @@
-// What each operation computes. Signed operations go through i32 and i64 values.
+// What each operation computes. Signed operations go through i32 and i64 values, each step under a name
+// that says which integer it is.
 #![tactic(auto)]
 
-ghost use Rattle.std.specs.Prelude.{◌≡◌, ◌%◌, ◌^◌, pos};
+ghost use Rattle.std.specs.Prelude.{◌≡◌, pos};
 ghost use Rattle.isa.specs.declared.ArithOp.TheVariants.{Sub, Sll, Slt, Sltu, Srl, Sra};
 ghost use Rattle.isa.specs.declared.Cond.TheVariants.{Blt};
 ghost use Rattle.isa.specs.declared.MulDivOp.TheVariants.{Mul, Mulh, Mulhsu, Mulhu, Div, Divu, Rem, Remu};
@@ -13,24 +14,20 @@ use isa::{ArithOp, Cond, ImmOp, MulDivOp, ShiftOp};
 fn signed32(x: u32) -> i32
     ensures { result ≡ signed 32 x }
 {
-    if x < 0x8000_0000 {
-        x as i32
-    } else {
-        !((0xFFFF_FFFF - x) as i32)
-    }
+    x.cast_signed()
 }
 
 fn signed64(x: u32) -> i64
     ensures { result ≡ signed 32 x }
 {
-    signed32(x) as i64
+    i64::from(signed32(x))
 }
 
 // The same number, with room for a signed product.
 fn plain64(x: u32) -> i64
     ensures { result ≡ pos x }
 {
-    x as i64
+    i64::from(x)
 }
 
 // The low 32 bits of a signed number.
@@ -40,23 +37,17 @@ fn low32(z: i64) -> u32
     (z & 0xFFFF_FFFF) as u32
 }
 
-fn narrow(x: u64) -> u32
-    ensures { result ≡ x % 2 ^ 32 }
-{
-    (x & 0xFFFF_FFFF) as u32
-}
-
 // The sum modulo 2^32: add, addresses, links and pc.
 pub fn add(a: u32, b: u32) -> u32
     ensures { result ≡ sum a b }
 {
-    std::num::wrapping_add_u32(a, b)
+    a.wrapping_add(b)
 }
 
 fn sub(a: u32, b: u32) -> u32
     ensures { result ≡ arith_of Sub a b }
 {
-    std::num::wrapping_sub_u32(a, b)
+    a.wrapping_sub(b)
 }
 
 fn is_less(a: u32, b: u32) -> bool
@@ -68,13 +59,13 @@ fn is_less(a: u32, b: u32) -> bool
 fn slt(a: u32, b: u32) -> u32
     ensures { result ≡ arith_of Slt a b }
 {
-    is_less(a, b) as u32
+    u32::from(is_less(a, b))
 }
 
 fn sltu(a: u32, b: u32) -> u32
     ensures { result ≡ arith_of Sltu a b }
 {
-    (a < b) as u32
+    u32::from(a < b)
 }
 
 fn sll(a: u32, b: u32) -> u32
@@ -92,13 +83,13 @@ fn srl(a: u32, b: u32) -> u32
 fn sra(a: u32, b: u32) -> u32
     ensures { result ≡ arith_of Sra a b }
 {
-    low32((signed32(a) >> (b & 31)) as i64)
+    (signed32(a) >> (b & 31)).cast_unsigned()
 }
 
 fn mul(a: u32, b: u32) -> u32
     ensures { result ≡ mul_div_of Mul a b }
 {
-    narrow(a as u64 * b as u64)
+    a.wrapping_mul(b)
 }
 
 fn mulh(a: u32, b: u32) -> u32
@@ -116,7 +107,7 @@ fn mulhsu(a: u32, b: u32) -> u32
 fn mulhu(a: u32, b: u32) -> u32
     ensures { result ≡ mul_div_of Mulhu a b }
 {
-    narrow((a as u64 * b as u64) >> 32)
+    ((u64::from(a) * u64::from(b)) >> 32) as u32
 }
 
 // In 64 bits the quotient of -2^31 by -1 fits.
@@ -124,7 +115,7 @@ fn div(a: u32, b: u32) -> u32
     ensures { result ≡ mul_div_of Div a b }
 {
     if b == 0 {
-        0xFFFF_FFFF
+        u32::MAX
     } else {
         low32(signed64(a) / signed64(b))
     }
@@ -133,7 +124,7 @@ fn div(a: u32, b: u32) -> u32
 fn divu(a: u32, b: u32) -> u32
     ensures { result ≡ mul_div_of Divu a b }
 {
-    if b == 0 { 0xFFFF_FFFF } else { a / b }
+    if b == 0 { u32::MAX } else { a / b }
 }
 
 fn rem(a: u32, b: u32) -> u32

@@ -2,7 +2,6 @@
 use mathlib.Core.Path.{◌≡◌, refl, sym, ap, ◌∙◌}
 use mathlib.Core.List.{[], ◌∷◌}
 use mathlib.Core.Logic.{◌⊎◌, inl, inr}
-use mathlib.Core.Option.{Option, none}
 use Prim.Native.Nat.{ℕ, ◌-◌, ◌≤◌}
 use native.Mathlib.Omega.{arith}
 use lib.Dec.{lit≤}
@@ -14,6 +13,7 @@ use Rattle.answers.specs.declared.Stop.TheVariants as S
 use Rattle.answers.specs.Refusals.{number_of, word_of}
 use Rattle.answers.specs.Replies.{placed}
 use Rattle.answers.specs.Stops.{stop_number, last_stop}
+use Rattle.std.specs.Prelude.{None, Option}
 
 -- its number leads back to it, and lies from least to most
 abbrev Numbered : {A : Type 0} → (A → ℕ) → (ℕ → A) → ℕ → ℕ → A → Type 0
@@ -54,7 +54,7 @@ pub number_of_one : {p q : Refusal} → number_of p ≡ number_of q → word_of 
 number_of_one {p} {q} e w = sym (refusal-numbered p).0 ∙ ap (refusal_of (word_of p)) e ∙ rw w (refusal-numbered q).0
 
 -- 3 tells a word, and no other does
-pub three_tells : (r : Refusal) → ((number_of r ≡ 3) × ((before : ℕ) → placed (word_of r) before ≡ placed (word_of r) 0)) ⊎ ((number_of r ≡ 3 → ⊥) × (word_of r ≡ none))
+pub three_tells : (r : Refusal) → ((number_of r ≡ 3) × ((before : ℕ) → placed (word_of r) before ≡ placed (word_of r) 0)) ⊎ ((number_of r ≡ 3 → ⊥) × (word_of r ≡ None))
 three_tells R.MemoryTooLong = inr (λ e. omega arith, refl)
 three_tells R.RowLength = inr (λ e. omega arith, refl)
 three_tells (R.RowRecord k) = inl (refl, λ before. refl)

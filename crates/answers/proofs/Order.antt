@@ -5,12 +5,11 @@ use mathlib.Core.Logic.{◌↔◌, inl, inr, ⊎_elim}
 use Prim.Native.Nat.{ℕ}
 use native.Mathlib.Omega.{arith}
 use Rattle.answers.specs.Answer.{Answer, given, refused_with}
-use Rattle.answers.specs.Checks.{unless}
+use Rattle.answers.specs.Checks.{unless, Check, passed}
 use Rattle.answers.specs.Order.{refusal, no_refusal}
 use Rattle.answers.specs.Refusals.{number_of}
 use Rattle.answers.specs.declared.Refusal.{Refusal}
-use Rattle.answers.specs.declared.Check.{Check}
-use Rattle.answers.specs.declared.Check.TheVariants.{Passed, Refused}
+use Rattle.std.specs.Prelude.{Err, Ok}
 
 -- ---- answers
 
@@ -27,8 +26,8 @@ same-value e = cc
 -- ---- chains of tests
 
 abbrev pub RefusedBy : Check → ℕ → Type 0
-RefusedBy Passed n = ⊥
-RefusedBy (Refused r) n = n ≡ number_of r
+RefusedBy (Ok u) n = ⊥
+RefusedBy (Err r) n = n ≡ number_of r
 
 abbrev pub Says : Check → (ℕ → Type 0) → Type 0
 Says c rows = (n : ℕ) → RefusedBy c n ↔ rows n
@@ -36,7 +35,7 @@ Says c rows = (n : ℕ) → RefusedBy c n ↔ rows n
 pub iff_same : {A : Type 0} → A ↔ A
 iff_same = (λ e. e, λ e. e)
 
-pub no_rows : Says Passed no_refusal
+pub no_rows : Says passed no_refusal
 no_rows n = iff_same
 
 -- a test before the others is a row before theirs
@@ -49,6 +48,6 @@ then_row true r rest p q n = (
 then_row false r rest p q n = (λ e. inl (p.0 refl, e), λ s. ⊎_elim (λ h. h.1) (λ h. absurd (h.0 (p.0 refl))) s)
 
 -- no refusal holds, so every test passes
-pub all_pass : (c : Check) {rows : ℕ → Type 0} → Says c rows → ((n : ℕ) → rows n → ⊥) → c ≡ Passed
-all_pass Passed q f = refl
-all_pass (Refused r) q f = absurd (f (number_of r) ((q (number_of r)).0 refl))
+pub all_pass : (c : Check) {rows : ℕ → Type 0} → Says c rows → ((n : ℕ) → rows n → ⊥) → c ≡ passed
+all_pass (Ok u) q f = refl
+all_pass (Err r) q f = absurd (f (number_of r) ((q (number_of r)).0 refl))

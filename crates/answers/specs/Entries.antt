@@ -1,6 +1,5 @@
 -- What can be asked of every entry, of whose outcome `read` says what the answer is in the paper's terms.
-use Rattle.std.specs.Prelude.{◌≡◌, ◌↔◌, ℕ}
-use Rattle.std.proofs.Math.Option.{Option}
+use Rattle.std.specs.Prelude.{◌≡◌, ◌↔◌, ℕ, Option}
 use Rattle.answers.specs.Answer.{Answer, refused_with}
 use Rattle.answers.specs.Outcomes.{Outcome}
 

@@ -1,6 +1,5 @@
 -- The refusal numbers, as the paper's table lists them.
-use Rattle.std.specs.Prelude.{ℕ}
-use Rattle.std.proofs.Math.Option.{Option, none, some}
+use Rattle.std.specs.Prelude.{ℕ, None, Option, Some}
 use Rattle.answers.specs.declared.Refusal.{Refusal}
 use Rattle.answers.specs.declared.Refusal.TheVariants.{MemoryTooLong, RowLength, RowRecord, Slot, OddPc, Room, NoInstruction, Field, NoShortForm, Unreadable, NumberNotAllowed, NoShortLine, OutputRoom, StopNumber, RecordEnd, MasksShare}
 
@@ -40,19 +39,19 @@ number_of MasksShare = 16
 
 -- the word that refusal 3 tells, the lowest whose record breaks the rules; no other refusal tells one
 abbrev pub word_of : Refusal → Option ℕ
-word_of MemoryTooLong = none
-word_of RowLength = none
-word_of (RowRecord k) = some k
-word_of Slot = none
-word_of OddPc = none
-word_of Room = none
-word_of NoInstruction = none
-word_of Field = none
-word_of NoShortForm = none
-word_of Unreadable = none
-word_of NumberNotAllowed = none
-word_of NoShortLine = none
-word_of OutputRoom = none
-word_of StopNumber = none
-word_of RecordEnd = none
-word_of MasksShare = none
+word_of MemoryTooLong = None
+word_of RowLength = None
+word_of (RowRecord k) = Some k
+word_of Slot = None
+word_of OddPc = None
+word_of Room = None
+word_of NoInstruction = None
+word_of Field = None
+word_of NoShortForm = None
+word_of Unreadable = None
+word_of NumberNotAllowed = None
+word_of NoShortLine = None
+word_of OutputRoom = None
+word_of StopNumber = None
+word_of RecordEnd = None
+word_of MasksShare = None

@@ -1,6 +1,5 @@
 -- The C interface: a call returns a number, and leaves values in the places that were lent to it.
-use Rattle.std.specs.Prelude.{ℕ}
-use Rattle.std.proofs.Math.Option.{Option, none, some}
+use Rattle.std.specs.Prelude.{ℕ, None, Option, Some}
 use Rattle.answers.specs.Answer.{Answer, given, refused_with}
 use Rattle.answers.specs.Outcomes.{Outcome, outcome}
 
@@ -15,8 +14,8 @@ called read before o = outcome (told (read o.answer) before).answer ((told (read
 
 -- what a refusal tells besides its number; where nothing is told, the place as it was
 abbrev pub placed : {A : Type 0} → Option A → A → A
-placed none before = before
-placed (some a) before = a
+placed None before = before
+placed (Some a) before = a
 
 -- a call whose refusals can tell something: that stands in a place of its own, beside the values
 abbrev pub called_telling : {A B C D : Type 0} → (A → Answer C) → (A → Option D) → C → D → Outcome A B → Outcome ℕ ((C × D) × B)

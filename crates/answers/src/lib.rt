@@ -3,9 +3,11 @@
 #![tactic(auto)]
 
 ghost use Rattle.std.specs.Prelude.{◌≡◌};
+ghost use Rattle.answers.specs.Answer.{of_result};
+ghost use Rattle.answers.specs.Outcomes.{outcome};
 ghost use Rattle.answers.specs.Refusals.{number_of, word_of};
-ghost use Rattle.answers.specs.Replies.{placed};
-ghost use Rattle.answers.specs.Stops.{stop_number};
+ghost use Rattle.answers.specs.Replies.{told};
+ghost use Rattle.answers.specs.Stops.{cause, stop_number};
 
 #[derive(Clone, Copy)]
 pub enum Refusal {
@@ -52,71 +54,38 @@ impl Refusal {
         }
     }
 
-    // The word that refusal 3 tells; 0 where none is told.
-    pub fn word(self) -> u8
-        ensures { result ≡ placed (word_of self) 0 }
+    // The word that refusal 3 tells; no other tells one.
+    pub fn word(self) -> Option<u8>
+        ensures { result ≡ word_of self }
     {
         match self {
-            Refusal::MemoryTooLong => 0,
-            Refusal::RowLength => 0,
-            Refusal::RowRecord(k) => k,
-            Refusal::Slot => 0,
-            Refusal::OddPc => 0,
-            Refusal::Room => 0,
-            Refusal::NoInstruction => 0,
-            Refusal::Field => 0,
-            Refusal::NoShortForm => 0,
-            Refusal::Unreadable => 0,
-            Refusal::NumberNotAllowed => 0,
-            Refusal::NoShortLine => 0,
-            Refusal::OutputRoom => 0,
-            Refusal::StopNumber => 0,
-            Refusal::RecordEnd => 0,
-            Refusal::MasksShare => 0,
+            Refusal::RowRecord(k) => Some(k),
+            _ => None,
         }
     }
 }
 
-// What an entry's tests of its input come to.
-#[derive(Clone, Copy)]
-pub enum Check {
-    Passed,
-    Refused(Refusal),
-}
-
-// Why a run does not go on.
+// Why a run does not go on, by the paper's numbers.
 #[derive(Clone, Copy)]
 pub enum Stop {
-    Ecall,
-    Ebreak,
-    IllegalInstruction,
-    FetchOutside,
-    LoadMisaligned,
-    LoadOutside,
-    StoreMisaligned,
-    StoreOutside,
-    AlreadyBurnt,
-    CountFull,
-    NotOwned,
+    Ecall = 1,
+    Ebreak = 2,
+    IllegalInstruction = 3,
+    FetchOutside = 4,
+    LoadMisaligned = 5,
+    LoadOutside = 6,
+    StoreMisaligned = 7,
+    StoreOutside = 8,
+    AlreadyBurnt = 9,
+    CountFull = 10,
+    NotOwned = 11,
 }
 
 impl Stop {
     pub fn number(self) -> u8
         ensures { result ≡ stop_number self }
     {
-        match self {
-            Stop::Ecall => 1,
-            Stop::Ebreak => 2,
-            Stop::IllegalInstruction => 3,
-            Stop::FetchOutside => 4,
-            Stop::LoadMisaligned => 5,
-            Stop::LoadOutside => 6,
-            Stop::StoreMisaligned => 7,
-            Stop::StoreOutside => 8,
-            Stop::AlreadyBurnt => 9,
-            Stop::CountFull => 10,
-            Stop::NotOwned => 11,
-        }
+        self as u8
     }
 }
 
@@ -125,4 +94,26 @@ impl Stop {
 pub struct Cause {
     pub stop: Stop,
     pub address: u32,
+}
+
+impl Cause {
+    pub fn new(stop: Stop, address: u32) -> Cause
+        ensures { result ≡ cause stop address }
+    {
+        Cause { stop, address }
+    }
+}
+
+// What a call of the C interface returns, 0 or the number of its refusal. The value goes to its place,
+// which stays as it was where the call is refused.
+pub fn reply<T: Copy>(answer: Result<T, Refusal>, place: &mut T) -> u32
+    ensures { outcome result place.new ≡ told (of_result answer) place.old }
+{
+    match answer {
+        Ok(value) => {
+            *place = value;
+            0
+        }
+        Err(why) => u32::from(why.number()),
+    }
 }

@@ -1,73 +1,79 @@
-// Text in a room that the caller lends: bytes one after another, and numbers as text. Each function
-// writes from `at` on and answers the place after what it wrote.
+// Text in a room that the caller lends: bytes one after another, and numbers as text.
 #![tactic(auto)]
 
 ghost use Rattle.std.specs.Prelude.{◌≡◌, [], ◌∷◌, ◌+◌, ◌≤◌, length};
-ghost use Rattle.ascii.specs.Numbers.{digit as Numbers·digit, decimal, signed_decimal, hex};
-ghost use Rattle.ascii.specs.Rooms.{Wrote};
+ghost use Rattle.ascii.specs.Numbers.{digit, decimal, signed_decimal, hex};
+ghost use Rattle.ascii.specs.Rooms.{HasRoom, Appended};
 
-pub fn put(room: &mut [u8], at: usize, byte: u8) -> usize
-    requires { at + 1 ≤ length room.old }
-    ensures { Wrote room.old at (byte ∷ []) room.new result }
-{
-    room[at] = byte;
-    at + 1
+// A room and how far it is written: what is put next stands from `at` on.
+#[derive(Drop)]
+pub struct Cursor<'a> {
+    pub room: &'a mut [u8],
+    pub at: usize,
 }
 
-pub fn put_all(room: &mut [u8], at: usize, text: &[u8]) -> usize
-    requires { at + length text.now ≤ length room.old }
-    ensures { Wrote room.old at text.now room.new result }
-{
-    let mut i = 0;
-    while i < text.len() {
-        room[at + i] = text[i];
-        i += 1;
+impl Cursor<'_> {
+    pub fn put(&mut self, byte: u8)
+        requires { HasRoom self.old (byte ∷ []) }
+        ensures { Appended self.old (byte ∷ []) self.new }
+    {
+        self.room[self.at] = byte;
+        self.at += 1;
     }
-    at + i
-}
 
-pub fn put_decimal(room: &mut [u8], at: usize, n: u32) -> usize
-    requires { at + length (decimal n) ≤ length room.old }
-    ensures { Wrote room.old at (decimal n) room.new result }
-{
-    if n < 10 {
-        return put(room, at, b'0' + n as u8);
+    pub fn put_all(&mut self, text: &[u8])
+        requires { HasRoom self.old text.now }
+        ensures { Appended self.old text.now self.new }
+    {
+        let end = self.at + text.len();
+        self.room[self.at..end].copy_from_slice(text);
+        self.at = end;
     }
-    let last = put_decimal(room, at, n / 10);
-    put(room, last, b'0' + (n % 10) as u8)
-}
 
-// A number in two's complement, with a minus sign where it is negative.
-pub fn put_signed(room: &mut [u8], at: usize, n: u32) -> usize
-    requires { at + length (signed_decimal n) ≤ length room.old }
-    ensures { Wrote room.old at (signed_decimal n) room.new result }
-{
-    if n < 0x8000_0000 {
-        return put_decimal(room, at, n);
+    pub fn put_decimal(&mut self, n: u32)
+        requires { HasRoom self.old (decimal n) }
+        ensures { Appended self.old (decimal n) self.new }
+    {
+        if n < 10 {
+            self.put(b'0' + n as u8);
+        } else {
+            self.put_decimal(n / 10);
+            self.put(b'0' + (n % 10) as u8);
+        }
     }
-    let digits = put(room, at, b'-');
-    put_decimal(room, digits, 0xffff_ffff - n + 1)
+
+    // A number in two's complement, with a minus sign where it is negative.
+    pub fn put_signed(&mut self, n: u32)
+        requires { HasRoom self.old (signed_decimal n) }
+        ensures { Appended self.old (signed_decimal n) self.new }
+    {
+        if n < 0x8000_0000 {
+            self.put_decimal(n);
+        } else {
+            self.put(b'-');
+            self.put_decimal(n.wrapping_neg());
+        }
+    }
+
+    // The last `count` digits of n in hexadecimal.
+    pub fn put_hex(&mut self, n: u32, count: usize)
+        requires { HasRoom self.old (hex count n) }
+        ensures { Appended self.old (hex count n) self.new }
+    {
+        if count > 0 {
+            self.put_hex(n / 16, count - 1);
+            self.put(hex_digit(n % 16));
+        }
+    }
 }
 
-fn digit(d: u32) -> u8
+fn hex_digit(d: u32) -> u8
     requires { d + 1 ≤ 16 }
-    ensures { result ≡ Numbers·digit d }
+    ensures { result ≡ digit d }
 {
     if d < 10 {
         b'0' + d as u8
     } else {
         b'a' + (d - 10) as u8
     }
-}
-
-// The last `count` digits of n in hexadecimal.
-pub fn put_hex(room: &mut [u8], at: usize, n: u32, count: usize) -> usize
-    requires { at + count ≤ length room.old }
-    ensures { Wrote room.old at (hex count n) room.new result }
-{
-    if count == 0 {
-        return at;
-    }
-    let last = put_hex(room, at, n / 16, count - 1);
-    put(room, last, digit(n % 16))
 }

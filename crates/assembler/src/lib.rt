@@ -2,59 +2,77 @@
 // caller lends. The answer is their length; bytes of the room after them stay.
 #![tactic(auto)]
 
-ghost use Rattle.std.specs.Prelude.{◌≡◌, ◌+◌, ◌≤◌, length};
+ghost use Rattle.std.specs.Prelude.{◌≡◌, length};
 ghost use Rattle.answers.specs.Outcomes.{outcome};
 ghost use Rattle.ascii.specs.Rooms.{Wrote};
 ghost use Rattle.assembly.specs.Assembly.{assembled};
-ghost use Rattle.coder.specs.Coding.{CodeSize};
-ghost use Rattle.octets.specs.Bytes.{store};
 ghost use Rattle.assembler.specs.Entry.{bytes_of, assemble_entry};
 ghost use Rattle.assembler.specs.Passes.{measured, Fits};
 
 use answers::Refusal;
-use coder::{Coded, code_line};
-use stores::{store2, store4};
+use coder::{Code, Fault, code_line};
+use stores::store_of;
 
-// The length of the output, or a refusal with its line and byte, both from 0.
+// A refusal, with its line and its byte of the line, both from 0.
 #[derive(Clone, Copy)]
-pub enum Assembled {
-    Length(usize),
-    Refused(Refusal, usize, usize),
+pub struct LineFault {
+    pub refusal: Refusal,
+    pub line: usize,
+    pub byte: usize,
 }
 
-// The first pass: every line is looked at before anything is written.
-fn measure(text: &[u8]) -> Assembled
-    ensures { result ≡ measured 0 0 (assembled text.now) }
-{
-    let mut at = 0;
-    let mut line = 0;
-    let mut length = 0;
-    while at < text.len() {
-        match code_line(&text[at..]) {
-            Coded::Code(_, size, end) => {
-                at += end;
-                line += 1;
-                length += size;
+// The codes of the lines of a text, one after the other, up to the first line at fault.
+#[derive(Clone, Copy)]
+struct Codes<'a> {
+    rest: &'a [u8],
+}
+
+impl<'a> Iterator for Codes<'a> {
+    ghost use Rattle.assembler.specs.Passes.{Turn};
+    ghost use Rattle.std.specs.Iterator.{at_most};
+
+    type Item = Result<Code, Fault>;
+
+    ghost next_gives = { λ s r t. Turn s.rest.now r t.rest.now };
+
+    ghost remaining = { λ s. at_most (length s.rest.now) };
+
+    fn next(&mut self) -> Option<Result<Code, Fault>> {
+        if self.rest.is_empty() {
+            return None;
+        }
+        match code_line(self.rest) {
+            Ok(code) => {
+                self.rest = &self.rest[code.end..];
+                Some(Ok(code))
             }
-            Coded::Refused(refusal, byte) => {
-                return Assembled::Refused(refusal, line, byte);
+            Err(fault) => {
+                self.rest = &[];
+                Some(Err(fault))
             }
         }
     }
-    Assembled::Length(length)
 }
 
-// The bytes of a code: the low two of a halfword's bits, or all four of a word's.
-fn store_code(room: &mut [u8], at: usize, size: usize, bits: u32)
-    requires code_size { CodeSize size }
-    requires size_in_bounds { at + size ≤ length room.old }
-    ensures { room.new ≡ store size at bits room.old }
+// The first pass: every line is looked at before anything is written. Answers the length of the
+// output.
+fn measure(text: &[u8]) -> Result<usize, LineFault>
+    ensures { result ≡ measured 0 0 (assembled text.now) }
 {
-    if size == 2 {
-        store2(room, at, (bits % 65536) as u16);
-        return;
+    let mut length = 0;
+    for (line, code) in (Codes { rest: text }).enumerate() {
+        match code {
+            Ok(code) => length += code.width.bytes(),
+            Err(fault) => {
+                return Err(LineFault {
+                    refusal: fault.refusal,
+                    line,
+                    byte: fault.byte,
+                });
+            }
+        }
     }
-    store4(room, at, bits);
+    Ok(length)
 }
 
 // The second pass, over lines that are not at fault. Answers the place after the output.
@@ -62,33 +80,29 @@ fn write_lines(text: &[u8], room: &mut [u8]) -> usize
     requires { Fits (length room.old) 0 (assembled text.now) }
     ensures { Wrote room.old 0 (bytes_of (assembled text.now)) room.new result }
 {
-    let mut at = 0;
     let mut length = 0;
-    while at < text.len() {
-        match code_line(&text[at..]) {
-            Coded::Code(bits, size, end) => {
-                store_code(room, length, size, bits);
-                at += end;
-                length += size;
-            }
-            Coded::Refused(_, _) => {
-                return length;
-            }
-        }
+    for code in (Codes { rest: text }) {
+        let Ok(code) = code else {
+            return length;
+        };
+        store_of(room, length, code.width, code.bits);
+        length += code.width.bytes();
     }
     length
 }
 
-// The codes of all lines. Refuses with 10, 11 and 12, for the first line at fault, and with 13.
-pub fn assemble(text: &[u8], room: &mut [u8]) -> Assembled
+// The codes of all lines, and their length. Refuses with 10, 11 and 12, for the first line at fault,
+// and with 13, which is of no line and tells 0 and 0.
+pub fn assemble(text: &[u8], room: &mut [u8]) -> Result<usize, LineFault>
     ensures { outcome result room.new ≡ assemble_entry text.now room.old }
 {
-    let measured = measure(text);
-    let Assembled::Length(length) = measured else {
-        return measured;
-    };
+    let length = measure(text)?;
     if length > room.len() {
-        return Assembled::Refused(Refusal::OutputRoom, 0, 0);
+        return Err(LineFault {
+            refusal: Refusal::OutputRoom,
+            line: 0,
+            byte: 0,
+        });
     }
-    Assembled::Length(write_lines(text, room))
+    Ok(write_lines(text, room))
 }

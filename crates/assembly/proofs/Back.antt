@@ -9,9 +9,6 @@ use lib.ListN.{length}
 use borrow.Author.Tests.{eqb-true}
 use Rattle.word.proofs.Bools.{and_left, and_right, and_both, is_true, holds}
 use Rattle.isa.specs.declared.Inst.{Inst}
-use Rattle.isa.specs.declared.Decoded.TheVariants.{Legal}
-use Rattle.isa.specs.declared.Encoded.TheVariants.{Bits, OutOfRange}
-use Rattle.isa.specs.declared.Shortened.{Shortened}
 use Rattle.isa.specs.Operations.{parts_of}
 use Rattle.isa.specs.Building.{registers_ok}
 use Rattle.isa.specs.Decoding.{decoded}
@@ -30,6 +27,8 @@ use Rattle.assembly.specs.Assembly.{instruction, gives, half_of, code_of, unless
 use Rattle.assembly.proofs.Numerals.{shown, Back, shown_back}
 use Rattle.assembly.proofs.Places.{line_reads}
 use Rattle.assembly.proofs.Forms.{still, still_is, range_is, wide, env, rendered, text_for, text_rendered, has, all_absent, operation_lt}
+use Rattle.isa.specs.declared.Unshortened.{Unshortened}
+use Rattle.std.specs.Prelude.{None, Result, Some}
 
 -- ---- the numbers of a rendered shape
 
@@ -151,17 +150,17 @@ module _ (i : Inst) (h : T (in_range i)) where
         ∙ ap (λ (j : Inst). code_of c j t) instruction-is
 
 -- THE WORD OF A LEGAL INSTRUCTION, listed and read back, gives its own bits
-pub word_back : (w : ℕ) (i : Inst) (t : List ℕ) → w < 2 ^ 32 → decoded w ≡ Legal i → meaning (text_of i ++ (10 ∷ t)) ≡ gives (little_endian 4 w) t
+pub word_back : (w : ℕ) (i : Inst) (t : List ℕ) → w < 2 ^ 32 → decoded w ≡ Some i → meaning (text_of i ++ (10 ∷ t)) ≡ gives (little_endian 4 w) t
 word_back w i t l e =
     let r : in_range i ≡ true = decoded_in_range w i e in
-    let b : Bits (word_of i) ≡ Bits w = sym (ap (λ (b : Bool). cond b (Bits (word_of i)) OutOfRange) r) ∙ encode_decode w i l e in
+    let b : Some (word_of i) ≡ Some w = sym (ap (λ (b : Bool). cond b (Some (word_of i)) None) r) ∙ encode_decode w i l e in
     let q : word_of i ≡ w = cc in
     meaning-is i (holds _ r) false t ∙ ap (λ (w : ℕ). gives (little_endian 4 w) t) q
 
 -- THE TEXT OF A LEGAL HALFWORD gives the smallest halfword with the same expansion
-pub half_back : (h : ℕ) (i : Inst) (t : List ℕ) → h < 2 ^ 16 → expanded h ≡ Legal i
+pub half_back : (h : ℕ) (i : Inst) (t : List ℕ) → h < 2 ^ 16 → expanded h ≡ Some i
     → (k : ℕ) × Shortest i k × (meaning (short_text_of i ++ (10 ∷ t)) ≡ gives (little_endian 2 k) t)
 half_back h i t l e =
     let k : ℕ = tried (parts_of i) in
     let q = shortened_one i h l e in
-    (k, shortened-is i k q, meaning-is i (holds _ (expanded_in_range h i l e)) true t ∙ ap (λ (s : Shortened). half_of s t) q)
+    (k, shortened-is i k q, meaning-is i (holds _ (expanded_in_range h i l e)) true t ∙ ap (λ (s : Result ℕ Unshortened). half_of s t) q)

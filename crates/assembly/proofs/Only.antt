@@ -8,8 +8,6 @@ use lib.Dec.{T, T_not, eqb, leb, ltb, leb→le}
 use borrow.Author.Tests.{eqb-true, eqb-false, eq-eqb, ne_eqb}
 use Rattle.word.proofs.Bools.{and_left, and_right, and_both, is_true, is_false, holds}
 use Rattle.isa.specs.declared.Inst.{Inst}
-use Rattle.isa.specs.declared.Shortened.{Shortened}
-use Rattle.isa.specs.declared.Shortened.TheVariants.{Half, OutOfRange, NoShortForm}
 use Rattle.isa.specs.declared.Parts.{Parts}
 use Rattle.isa.specs.Operations.{parts, parts_of}
 use Rattle.isa.specs.Building.{built, registers_ok}
@@ -22,6 +20,9 @@ use Rattle.assembly.specs.Assembly.{instruction, gives, half_of, code_of, unless
 use Rattle.assembly.proofs.Numerals.{shown_forth}
 use Rattle.assembly.proofs.Places.{read-line}
 use Rattle.assembly.proofs.Forms.{still, still_is, range_is, env, rendered, text_for, text_rendered, has, kept, once, all_once, no_imm}
+use Rattle.isa.specs.declared.Unshortened.TheVariants as U
+use Rattle.isa.specs.declared.Unshortened.{Unshortened}
+use Rattle.std.specs.Prelude.{Err, Ok, Result}
 
 -- ---- all numbers are allowed
 
@@ -217,10 +218,10 @@ code_rest : (c : Bool) (i : Inst) (r bs rest : List ℕ) → code_of c i r ≡ g
 code_rest false i r bs rest e = cc
 code_rest true i r bs rest e = go (shortened i) e
   where
-    go : (s : Shortened) → half_of s r ≡ gives bs rest → r ≡ rest
-    go (Half h) e = cc
-    go OutOfRange e = cc
-    go NoShortForm e = cc
+    go : (s : Result ℕ Unshortened) → half_of s r ≡ gives bs rest → r ≡ rest
+    go (Ok h) e = cc
+    go (Err U.OutOfRange) e = cc
+    go (Err U.NoShortForm) e = cc
 
 pub accepted : (text bs rest : List ℕ) → meaning text ≡ gives bs rest → Given text bs rest
 accepted text bs rest e = go (line_at text) refl e

@@ -7,9 +7,6 @@ use Prim.Native.Nat.{ℕ, ◌≤◌, ◌<◌, ◌^◌}
 use native.Mathlib.Omega.{arith}
 use Rattle.word.proofs.Bools.{is_true, holds, below}
 use Rattle.isa.specs.declared.Inst.{Inst}
-use Rattle.isa.specs.declared.Decoded.TheVariants.{Legal}
-use Rattle.isa.specs.declared.Shortened.{Shortened}
-use Rattle.isa.specs.declared.Shortened.TheVariants.{Half, OutOfRange, NoShortForm}
 use Rattle.isa.specs.Encoding.{in_range}
 use Rattle.isa.specs.Rvc.{expanded}
 use Rattle.isa.specs.Shortening.{shortened}
@@ -28,6 +25,9 @@ use Rattle.assembly.specs.Places.{UnreadableAt, Leftmost, WrongNumberAt, NoHalfA
 use Rattle.assembly.proofs.Places.{place, read-line, line_reads}
 use Rattle.assembly.proofs.Back.{meaning-is}
 use Rattle.assembly.proofs.Only.{its}
+use Rattle.isa.specs.declared.Unshortened.TheVariants as U
+use Rattle.isa.specs.declared.Unshortened.{Unshortened}
+use Rattle.std.specs.Prelude.{Err, Ok, Result, Some}
 
 -- ---- 10
 
@@ -38,12 +38,12 @@ code_not false i rest r p ne e =
     omega arith
 code_not true i rest r p ne e = go (shortened i) e
   where
-    go : (s : Shortened) → half_of s rest ≡ faulty r p → ⊥
-    go (Half h) e =
+    go : (s : Result ℕ Unshortened) → half_of s rest ≡ faulty r p → ⊥
+    go (Ok h) e =
         let z : ◌≡◌ {A = ℕ} 0 1 = cc in
         omega arith
-    go OutOfRange e = ne (cc)
-    go NoShortForm e = ne (cc)
+    go (Err U.OutOfRange) e = ne (cc)
+    go (Err U.NoShortForm) e = ne (cc)
 
 unread : (text : List ℕ) (p : ℕ) → meaning text ≡ faulty Unreadable p → line_at text ≡ unreadable p
 unread text p e = go (line_at text) refl e
@@ -131,20 +131,20 @@ refused_11 text p = (λ e. to (line_at text) refl e, from)
 pub refused_12 : (text : List ℕ) (p : ℕ) → (meaning text ≡ faulty NoShortLine p) ↔ NoHalfAt text p
 refused_12 text p = (λ e. to (line_at text) refl e, from)
   where
-    none_of : (i : Inst) → in_range i ≡ true → (r : List ℕ) → half_of (shortened i) r ≡ faulty NoShortLine p → (p ≡ 0) × ((h : ℕ) → h < 2 ^ 16 → expanded h ≡ Legal i → ⊥)
+    none_of : (i : Inst) → in_range i ≡ true → (r : List ℕ) → half_of (shortened i) r ≡ faulty NoShortLine p → (p ≡ 0) × ((h : ℕ) → h < 2 ^ 16 → expanded h ≡ Some i → ⊥)
     none_of i g r e = go (shortened i) refl e
       where
-        go : (s : Shortened) → shortened i ≡ s → half_of s r ≡ faulty NoShortLine p → (p ≡ 0) × ((h : ℕ) → h < 2 ^ 16 → expanded h ≡ Legal i → ⊥)
-        go (Half h) q e =
+        go : (s : Result ℕ Unshortened) → shortened i ≡ s → half_of s r ≡ faulty NoShortLine p → (p ≡ 0) × ((h : ℕ) → h < 2 ^ 16 → expanded h ≡ Some i → ⊥)
+        go (Ok h) q e =
             let z : ◌≡◌ {A = ℕ} 0 1 = cc in
             absurd (omega arith)
-        go OutOfRange q e = (
+        go (Err U.OutOfRange) q e = (
           (let z : 0 ≡ p = cc in sym z),
-          λ h l m. let x : Half (tried (parts_of i)) ≡ OutOfRange = sym (shortened_one i h l m) ∙ q in
+          λ h l m. let x : Ok (tried (parts_of i)) ≡ Err U.OutOfRange = sym (shortened_one i h l m) ∙ q in
               let z : ◌≡◌ {A = ℕ} 0 1 = cc in
               omega arith,
         )
-        go NoShortForm q e = ((let z : 0 ≡ p = cc in sym z), no_short_form i q)
+        go (Err U.NoShortForm) q e = ((let z : 0 ≡ p = cc in sym z), no_short_form i q)
 
     to : (l : Line) → line_at text ≡ l → meaning_of l ≡ faulty NoShortLine p → NoHalfAt text p
     to (unreadable n) q e =
@@ -179,7 +179,7 @@ refused_12 text p = (λ e. to (line_at text) refl e, from)
     from : NoHalfAt text p → meaning text ≡ faulty NoShortLine p
     from n =
         ap meaning n.is ∙ meaning-is n.inst (holds _ n.ranged) true n.rest
-        ∙ ap (λ (s : Shortened). half_of s n.rest) (none-stands n.inst n.ranged n.none) ∙ ap (faulty NoShortLine) (sym n.place)
+        ∙ ap (λ (s : Result ℕ Unshortened). half_of s n.rest) (none-stands n.inst n.ranged n.none) ∙ ap (faulty NoShortLine) (sym n.place)
 
 -- ---- no other
 
@@ -190,10 +190,10 @@ which text r p e = go (line_at text) e
     coded false i rest e = cc
     coded true i rest e = by (shortened i) e
       where
-        by : (s : Shortened) → half_of s rest ≡ faulty r p → r ≡ NoShortLine
-        by (Half h) e = cc
-        by OutOfRange e = cc
-        by NoShortForm e = cc
+        by : (s : Result ℕ Unshortened) → half_of s rest ≡ faulty r p → r ≡ NoShortLine
+        by (Ok h) e = cc
+        by (Err U.OutOfRange) e = cc
+        by (Err U.NoShortForm) e = cc
 
     go : (l : Line) → meaning_of l ≡ faulty r p → (r ≡ Unreadable) ⊎ ((r ≡ NumberNotAllowed) ⊎ (r ≡ NoShortLine))
     go (unreadable n) e = inl (cc)

@@ -12,8 +12,6 @@ use Rattle.word.proofs.Sweep.{every, at}
 use Rattle.ascii.specs.Numbers.{decimal, decimal_by, signed_decimal}
 use Rattle.answers.specs.declared.Refusal.{Refusal}
 use Rattle.isa.specs.declared.Inst.{Inst}
-use Rattle.isa.specs.declared.Shortened.{Shortened}
-use Rattle.isa.specs.declared.Shortened.TheVariants.{Half, OutOfRange, NoShortForm}
 use Rattle.isa.specs.Building.{built}
 use Rattle.isa.specs.Encoding.{word_of}
 use Rattle.isa.specs.Shortening.{shortened}
@@ -26,6 +24,9 @@ use Rattle.assembly.specs.Scanner.{Line, reads, unreadable, line_at}
 use Rattle.assembly.specs.Numbers.{Checked, right, wrong, checked}
 use Rattle.assembly.specs.Assembly.{instruction, Meaning, gives, faulty, half_of, code_of, unless_wrong, meaning_of, meaning, output, fault, before, onward, assembled_by, assembled}
 use Rattle.assembly.proofs.Places.{read-line}
+use Rattle.isa.specs.declared.Unshortened.TheVariants as U
+use Rattle.isa.specs.declared.Unshortened.{Unshortened}
+use Rattle.std.specs.Prelude.{Err, Ok, Result}
 
 -- ---- how long a line is
 
@@ -59,15 +60,15 @@ code_long false i r bs rest e =
     (omega arith, omega arith, cc)
 code_long true i r bs rest e = go (shortened i) e
   where
-    go : (s : Shortened) → half_of s r ≡ gives bs rest → Coded r bs rest
-    go (Half h) e =
+    go : (s : Result ℕ Unshortened) → half_of s r ≡ gives bs rest → Coded r bs rest
+    go (Ok h) e =
         let z : little_endian 2 h ≡ bs = cc in
         let l : length bs ≡ 2 = sym (ap length z) ∙ length_le 2 h in
         (omega arith, omega arith, cc)
-    go OutOfRange e =
+    go (Err U.OutOfRange) e =
         let z : ◌≡◌ {A = ℕ} 0 1 = cc in
         absurd (omega arith)
-    go NoShortForm e =
+    go (Err U.NoShortForm) e =
         let z : ◌≡◌ {A = ℕ} 0 1 = cc in
         absurd (omega arith)
 

@@ -1,10 +1,8 @@
 -- What a line gives, and what a text gives.
-use Rattle.std.specs.Prelude.{Bool, true, false, List, [], ◌∷◌, ◌++◌, ℕ, zero, suc, length}
+use Rattle.std.specs.Prelude.{Bool, true, false, List, [], ◌∷◌, ◌++◌, ℕ, zero, suc, length, Err, Ok, Result}
 use Rattle.answers.specs.declared.Refusal.{Refusal}
 use Rattle.answers.specs.declared.Refusal.TheVariants.{Unreadable, NumberNotAllowed, NoShortLine}
 use Rattle.isa.specs.declared.Inst.{Inst}
-use Rattle.isa.specs.declared.Shortened.{Shortened}
-use Rattle.isa.specs.declared.Shortened.TheVariants.{Half, OutOfRange, NoShortForm}
 use Rattle.isa.specs.Operations.{parts}
 use Rattle.isa.specs.Building.{built}
 use Rattle.isa.specs.Encoding.{word_of}
@@ -13,6 +11,8 @@ use Rattle.octets.specs.Bytes.{little_endian}
 use Rattle.assembly.specs.Lines.{Word}
 use Rattle.assembly.specs.Scanner.{Line, reads, unreadable, line_at}
 use Rattle.assembly.specs.Numbers.{Checked, right, wrong, checked, value}
+use Rattle.isa.specs.declared.Unshortened.TheVariants as U
+use Rattle.isa.specs.declared.Unshortened.{Unshortened}
 
 -- ---- one line
 
@@ -25,10 +25,10 @@ pub data Meaning : Type 0 where
   faulty : Refusal → ℕ → Meaning
 
 -- the smallest halfword; 12: there is none
-abbrev pub half_of : Shortened → List ℕ → Meaning
-half_of (Half h) rest = gives (little_endian 2 h) rest
-half_of OutOfRange rest = faulty NoShortLine 0
-half_of NoShortForm rest = faulty NoShortLine 0
+abbrev pub half_of : Result ℕ Unshortened → List ℕ → Meaning
+half_of (Ok h) rest = gives (little_endian 2 h) rest
+half_of (Err U.OutOfRange) rest = faulty NoShortLine 0
+half_of (Err U.NoShortForm) rest = faulty NoShortLine 0
 
 -- with c: or without
 abbrev pub code_of : Bool → Inst → List ℕ → Meaning

@@ -1,8 +1,7 @@
 -- Where the first line of a text is at fault, apart from any way of reading it.
-use Rattle.std.specs.Prelude.{◌≡◌, Bool, true, false, List, ◌∷◌, ◌++◌, ℕ, ◌^◌, ◌≤◌, ◌<◌, length, take}
+use Rattle.std.specs.Prelude.{◌≡◌, Bool, true, false, List, ◌∷◌, ◌++◌, ℕ, ◌^◌, ◌≤◌, ◌<◌, length, take, Some}
 use Rattle.ascii.specs.Ascii.{bytes}
 use Rattle.isa.specs.declared.Inst.{Inst}
-use Rattle.isa.specs.declared.Decoded.TheVariants.{Legal}
 use Rattle.isa.specs.Encoding.{in_range}
 use Rattle.isa.specs.Rvc.{expanded}
 use Rattle.text.specs.Text.{short_text_of}
@@ -51,5 +50,5 @@ pub record NoHalfAt (text : List ℕ) (p : ℕ) : Type 0 where
   pub rest : List ℕ
   pub ranged : in_range inst ≡ true
   pub is : text ≡ short_text_of inst ++ (bytes "\n" ++ rest)
-  pub none : (h : ℕ) → h < 2 ^ 16 → expanded h ≡ Legal inst → ⊥
+  pub none : (h : ℕ) → h < 2 ^ 16 → expanded h ≡ Some inst → ⊥
   pub place : p ≡ 0

@@ -5,6 +5,7 @@ use mathlib.Core.List.{List}
 use Prim.Native.Nat.{ℕ, ◌≤◌, ◌<◌}
 use native.Mathlib.Omega.{arith}
 use borrow.Author.Tests.{le-leb, lt-leb, leb-true}
+use Rattle.std.specs.Prelude.{Err, Ok}
 use lib.Dec.{leb}
 use lib.ListN.{length, length-append}
 use Rattle.answers.specs.Outcomes.{Outcome, outcome, decided}
@@ -17,9 +18,8 @@ use Rattle.ascii.specs.Rooms.{Wrote, fronted}
 use Rattle.ascii.proofs.Numbers.{decimal_bound}
 use Rattle.ascii.proofs.Rooms.{at_front}
 use Rattle.assembly.specs.Assembly.{Assembly, output, fault, assembled}
-use Rattle.assembler.specs.declared.Assembled.{Assembled}
-use Rattle.assembler.specs.declared.Assembled.TheVariants.{Length, Refused}
-use Rattle.assembler.specs.Entry.{entry_of, assemble_entry}
+use Rattle.assembler.specs.declared.LineFault.{LineFault}
+use Rattle.assembler.specs.Entry.{Assembled, refused_line, entry_of, assemble_entry}
 use Rattle.assembler.proofs.Lines.{output-short}
 use Rattle.assembly_io.specs.declared.Said.{Said}
 use Rattle.assembly_io.specs.declared.Said.TheVariants.{Output, Error}
@@ -47,49 +47,50 @@ module _ (text room : List ℕ) (r₀ : 65536 ≤ length room) where
 
   module _ (l : length text ≤ 65536) (a : Assembled) (after : List ℕ) (e : outcome a after ≡ assemble_entry text room) where
     -- what the entry answers and leaves, by what the lines come to
-    faulted : (r : Refusal) (k p : ℕ) → assembled text ≡ fault r k p → outcome a after ≡ outcome (Refused r k p) room
+    faulted : (r : Refusal) (k p : ℕ) → assembled text ≡ fault r k p → outcome a after ≡ outcome (refused_line r k p) room
     unfolding decided
     faulted r k p q = e ∙ ap (λ (x : Assembly). entry_of x room) q
 
-    filled : (out : List ℕ) → assembled text ≡ output out → outcome a after ≡ outcome (Length (length out)) (fronted out room)
+    filled : (out : List ℕ) → assembled text ≡ output out → outcome a after ≡ outcome (Ok (length out)) (fronted out room)
     unfolding decided
     filled out q = rw (le-leb (length out) (length room) (omega (arith, output-short text out q))) at (e ∙ ap (λ (x : Assembly). entry_of x room) q)
 
-    pub all-given : (n : ℕ) → a ≡ Length n → outcome (Output n) after ≡ saying text room
+    pub all-given : (n : ℕ) → a ≡ Ok n → outcome (Output n) after ≡ saying text room
     unfolding saying
     all-given n q = rw (le-leb (length text) 65536 l) (go (assembled text) refl)
       where
         go : (x : Assembly) → assembled text ≡ x → outcome (Output n) after ≡ in_room (said_of x) room
         go (fault r k p) z =
-            let w : Length n ≡ Refused r k p = sym q ∙ ap (λ (o : Outcome Assembled (List ℕ)). o.answer) (faulted r k p z) in
+            let w : Ok n ≡ refused_line r k p = sym q ∙ ap (λ (o : Outcome Assembled (List ℕ)). o.answer) (faulted r k p z) in
             let c : ◌≡◌ {A = ℕ} 0 1 = cc in
             absurd (omega arith)
         go (output out) z =
             let y = filled out z in
-            let w : Length n ≡ Length (length out) = sym q ∙ ap (λ (o : Outcome Assembled (List ℕ)). o.answer) y in
+            let w : Ok n ≡ Ok (length out) = sym q ∙ ap (λ (o : Outcome Assembled (List ℕ)). o.answer) y in
             let m : n ≡ length out = cc in
             λ i. outcome (Output (m i)) (y i).lent
 
     -- refused, the room is as it was
-    pub kept : (r : Refusal) (k p : ℕ) → a ≡ Refused r k p → (after ≡ room) × (said_of (assembled text) ≡ to_error (complaint r))
-    kept r k p q = go (assembled text) refl
+    pub kept : (f : LineFault) → a ≡ Err f → (after ≡ room) × (said_of (assembled text) ≡ to_error (complaint f.refusal))
+    kept f q = go (assembled text) refl
       where
-        go : (x : Assembly) → assembled text ≡ x → (after ≡ room) × (said_of (assembled text) ≡ to_error (complaint r))
+        go : (x : Assembly) → assembled text ≡ x → (after ≡ room) × (said_of (assembled text) ≡ to_error (complaint f.refusal))
         go (fault s j o) z =
             let y = faulted s j o z in
-            let w : Refused r k p ≡ Refused s j o = sym q ∙ ap (λ (o : Outcome Assembled (List ℕ)). o.answer) y in
-            let m : r ≡ s = cc in
+            let w : Err f ≡ refused_line s j o = sym q ∙ ap (λ (o : Outcome Assembled (List ℕ)). o.answer) y in
+            let x : f ≡ record { refusal = s; line = j; byte = o } = cc in
+            let m : f.refusal ≡ s = ap (λ (f : LineFault). f.refusal) x in
             (ap (λ (o : Outcome Assembled (List ℕ)). o.lent) y, ap said_of z ∙ ap (λ (r : Refusal). to_error (complaint r)) (sym m))
         go (output out) z =
-            let w : Refused r k p ≡ Length (length out) = sym q ∙ ap (λ (o : Outcome Assembled (List ℕ)). o.answer) (filled out z) in
+            let w : Err f ≡ Ok (length out) = sym q ∙ ap (λ (o : Outcome Assembled (List ℕ)). o.answer) (filled out z) in
             let c : ◌≡◌ {A = ℕ} 0 1 = cc in
             absurd (omega arith)
 
-    pub complained : (r : Refusal) (k p : ℕ) → a ≡ Refused r k p → (last : List ℕ) (n : ℕ) → Wrote after 0 (complaint r) last n → outcome (Error n) last ≡ saying text room
+    pub complained : (f : LineFault) → a ≡ Err f → (last : List ℕ) (n : ℕ) → Wrote after 0 (complaint f.refusal) last n → outcome (Error n) last ≡ saying text room
     unfolding saying
-    complained r k p q last n w =
-        let s = kept r k p q in
-        rw (le-leb (length text) 65536 l, s.1) (heard (subst (λ (l : List ℕ). Wrote l 0 (complaint r) last n) s.0 w) (omega (arith, complaint-long r)))
+    complained f q last n w =
+        let s = kept f q in
+        rw (le-leb (length text) 65536 l, s.1) (heard (subst (λ (l : List ℕ). Wrote l 0 (complaint f.refusal) last n) s.0 w) (omega (arith, complaint-long f.refusal)))
 
 -- ---- what was said lies in a room of 65,536 bytes
 

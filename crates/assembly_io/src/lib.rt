@@ -8,15 +8,19 @@ ghost use Rattle.ascii.specs.Rooms.{Wrote};
 ghost use Rattle.assembly_io.specs.Saying.{complaint, saying};
 
 use answers::Refusal;
-use ascii::{put, put_all, put_decimal};
-use assembler::{Assembled, assemble};
+use ascii::Cursor;
+use assembler::assemble;
 use reading::read_full;
 use std::io::{self, Read, Write};
 
 // The longest text, and more than any output of one: a line is longer than what it gives.
 const TEXT: usize = 65536;
 
-// So many bytes of the room are for standard output, or for standard error.
+// One byte more than a text may have tells those that are too long.
+const READ: usize = 65537;
+
+// So many bytes of the room are for standard output, or for standard error. No `Result`: both are what is
+// to be written, and neither is a failure of `say`.
 #[derive(Clone, Copy)]
 pub enum Said {
     Output(usize),
@@ -27,8 +31,10 @@ fn complain(refusal: Refusal, room: &mut [u8]) -> usize
     requires { 65536 ≤ length room.old }
     ensures { Wrote room.old 0 (complaint refusal) room.new result }
 {
-    let newline = put_decimal(room, 0, refusal.number() as u32);
-    put(room, newline, b'\n')
+    let mut out = Cursor { room, at: 0 };
+    out.put_decimal(refusal.number() as u32);
+    out.put(b'\n');
+    out.at
 }
 
 // What the program writes for a text, at the front of a room that holds it.
@@ -37,23 +43,25 @@ pub fn say(text: &[u8], room: &mut [u8]) -> Said
     ensures { outcome result room.new ≡ saying text.now room.old }
 {
     if text.len() > TEXT {
-        return Said::Error(put_all(room, 0, b"too long\n"));
+        let mut out = Cursor { room, at: 0 };
+        out.put_all(b"too long\n");
+        return Said::Error(out.at);
     }
     match assemble(text, room) {
-        Assembled::Length(length) => Said::Output(length),
-        Assembled::Refused(refusal, _, _) => Said::Error(complain(refusal, room)),
+        Ok(length) => Said::Output(length),
+        Err(fault) => Said::Error(complain(fault.refusal, room)),
     }
 }
 
-// One byte more than a text may have tells those that are too long.
+// Reads a text, and writes what there is to say of it.
 pub fn assemble_from<R: Read, W: Write, E: Write>(
     input: &mut R,
     output: &mut W,
     errors: &mut E,
 ) -> io::Result<()> {
-    let mut text = [0u8; 65537];
+    let mut text = [0u8; READ];
     let n = read_full(input, &mut text)?;
-    let mut room = [0u8; 65536];
+    let mut room = [0u8; TEXT];
     match say(&text[..n], &mut room) {
         Said::Output(length) => output.write_all(&room[..length]),
         Said::Error(length) => errors.write_all(&room[..length]),

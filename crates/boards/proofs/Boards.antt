@@ -9,14 +9,15 @@ use borrow.Author.Tests.{eqb-true, eq-eqb, leb-true, le-leb}
 use Rattle.answers.proofs.Checks.{both_passed, refused_on, passed_on}
 use Rattle.answers.specs.declared.Refusal.{Refusal}
 use Rattle.answers.specs.declared.Refusal.TheVariants.{MemoryTooLong, RowLength, RowRecord, MasksShare}
-use Rattle.answers.specs.declared.Check.{Check}
-use Rattle.answers.specs.declared.Check.TheVariants.{Passed, Refused}
 use Rattle.word.specs.Bits.{low}
 use Rattle.octets.specs.Bytes.{store}
 use Rattle.octets.proofs.Bytes.{length-store, store_below}
 use Rattle.fuses.specs.Row.{all_keep, lowest_bad, row_checked, Row, burnt}
 use Rattle.fuses.proofs.Burning.{row-burnt, burnt_below}
-use Rattle.boards.specs.Boards.{Board, board, BoardFits, Masks, disjoint, start_checked, longest_memory}
+use Rattle.boards.specs.Boards.{Board, board, BoardFits, disjoint, start_checked, longest_memory}
+use Rattle.boards.specs.declared.Grant.{Grant}
+use Rattle.answers.specs.Checks.{Check, passed}
+use Rattle.std.specs.Prelude.{Err}
 
 -- a board that the entries accept
 pub record Lendable (b : Board) : Type 0 where
@@ -26,23 +27,23 @@ pub record Lendable (b : Board) : Type 0 where
 -- ---- the row alone
 
 module _ (row : List ℕ) (rest : Check) where
-  pub row-refused : {c : Check} {r : Refusal} → (c ≡ Refused r → rest ≡ Refused r) → row_checked row c ≡ Refused r → row_checked row rest ≡ Refused r
+  pub row-refused : {c : Check} {r : Refusal} → (c ≡ Err r → rest ≡ Err r) → row_checked row c ≡ Err r → row_checked row rest ≡ Err r
   row-refused f e = refused_on (eqb (length row) 512) RowLength (refused_on (all_keep 64 row) (RowRecord (lowest_bad 64 row)) f) e
 
-  pub row_passed : {c q : Check} → (c ≡ Passed → rest ≡ q) → row_checked row c ≡ Passed → row_checked row rest ≡ q
+  pub row_passed : {c q : Check} → (c ≡ passed → rest ≡ q) → row_checked row c ≡ passed → row_checked row rest ≡ q
   row_passed f e = passed_on (eqb (length row) 512) RowLength (passed_on (all_keep 64 row) (RowRecord (lowest_bad 64 row)) f) e
 
 -- ---- all of it
 
-module _ (b : Board) (m : Masks) (rest : Check) where
-  pub start-refused : {r : Refusal} → start_checked b m Passed ≡ Refused r → start_checked b m rest ≡ Refused r
+module _ (b : Board) (m : Grant) (rest : Check) where
+  pub start-refused : {r : Refusal} → start_checked b m passed ≡ Err r → start_checked b m rest ≡ Err r
   start-refused e = refused_on (leb (length b.mem) longest_memory) MemoryTooLong (row-refused b.row _ (refused_on (disjoint m) MasksShare (λ z. cc))) e
 
-  pub start_passed : start_checked b m Passed ≡ Passed → start_checked b m rest ≡ rest
+  pub start_passed : start_checked b m passed ≡ passed → start_checked b m rest ≡ rest
   start_passed e = passed_on (leb (length b.mem) longest_memory) MemoryTooLong (row_passed b.row _ (passed_on (disjoint m) MasksShare (λ z. refl))) e
 
   -- where all passed, so did the rest
-  pub start_accepted : start_checked b m rest ≡ Passed → Lendable b × (disjoint m ≡ true) × (rest ≡ Passed)
+  pub start_accepted : start_checked b m rest ≡ passed → Lendable b × (disjoint m ≡ true) × (rest ≡ passed)
   start_accepted e =
       let s = both_passed (leb (length b.mem) longest_memory) MemoryTooLong _ e in
       let l = both_passed (eqb (length b.row) 512) RowLength _ s.1 in

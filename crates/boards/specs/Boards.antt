@@ -1,10 +1,10 @@
 -- What a run is given: main memory, the fuse row, and two masks of the row's words; and what an entry asks of them.
 use Rattle.std.specs.Prelude.{ℕ, ◌^◌, List, length, eqb, leb, Bool}
 use Rattle.std.specs.Int.Bits.{bit_and}
-use Rattle.answers.specs.Checks.{unless}
-use Rattle.answers.specs.declared.Check.{Check}
+use Rattle.answers.specs.Checks.{unless, Check}
 use Rattle.answers.specs.declared.Refusal.TheVariants as R
 use Rattle.word.specs.Bounds.{AllBelow}
+use Rattle.boards.specs.declared.Grant.{Grant}
 use Rattle.fuses.specs.Row.{row_checked, all_words}
 
 pub record Board : Type 0 where
@@ -23,23 +23,19 @@ abbrev pub longest_memory : ℕ
 longest_memory = 65536
 
 -- the own words of a run, and those of the other recipe on the row
-pub record Masks : Type 0 where
-  pub own : ℕ
-  pub other : ℕ
-
-abbrev pub masks : ℕ → ℕ → Masks
-masks own other = record { own = own; other = other }
+abbrev pub grant : ℕ → ℕ → Grant
+grant own other = record { own = own; other = other }
 
 -- of a call without masks: all words are its own, and none is the other's
-abbrev pub no_masks : Masks
-no_masks = masks all_words 0
+abbrev pub alone : Grant
+alone = grant all_words 0
 
 -- those of the other recipe's runs
-abbrev pub swapped : Masks → Masks
-swapped m = masks m.other m.own
+abbrev pub swapped : Grant → Grant
+swapped m = grant m.other m.own
 
 -- no bit is set in both
-abbrev pub disjoint : Masks → Bool
+abbrev pub disjoint : Grant → Bool
 disjoint m = eqb (bit_and m.own m.other) 0
 
 -- refusals 1, 2 and 3, then those that follow
@@ -47,5 +43,5 @@ abbrev pub board_checked : Board → Check → Check
 board_checked b rest = unless (leb (length b.mem) longest_memory) R.MemoryTooLong (row_checked b.row rest)
 
 -- then 16
-abbrev pub start_checked : Board → Masks → Check → Check
+abbrev pub start_checked : Board → Grant → Check → Check
 start_checked b m rest = board_checked b (unless (disjoint m) R.MasksShare rest)

@@ -8,12 +8,11 @@ ghost use Rattle.word.specs.Tables.{find};
 ghost use Rattle.isa.specs.declared.Inst.TheVariants.{Ecall};
 ghost use Rattle.isa.specs.Building.{without, built, inst_of};
 
-use isa::{
-    ArithOp, Built, Cond, ImmOp, Inst, LoadOp, MulDivOp, Named, Parts, Reg, ShiftOp, StoreOp,
-};
-use parts::{parts_of, same_parts};
+use isa::{ArithOp, Cond, ImmOp, Inst, LoadOp, MulDivOp, Parts, Reg, ShiftOp, StoreOp};
+use parts::parts_of;
 
-// The operations without an immediate, and ecall for a number that has no operation.
+// The operations without an immediate, and ecall for a number that has no operation. Operations come by
+// number from the C interface and from the table of lines; one match over all would pass forty lines.
 fn without_immediate(operation: u8, rd: Reg, rs1: Reg, rs2: Reg) -> Inst
     ensures { result ≡ find Ecall (without rd.number rs1.number rs2.number) operation (λ i. i) }
 {
@@ -43,6 +42,7 @@ fn without_immediate(operation: u8, rd: Reg, rs1: Reg, rs2: Reg) -> Inst
 }
 
 // The instruction of an operation's number at these operands.
+#[tactic(auto, unfolding(isa::specs::Building::built))]
 pub fn built(operation: u8, rd: Reg, rs1: Reg, rs2: Reg, imm: u32) -> Inst
     ensures { result ≡ built (parts operation rd.number rs1.number rs2.number imm) }
 {
@@ -80,22 +80,20 @@ pub fn built(operation: u8, rd: Reg, rs1: Reg, rs2: Reg, imm: u32) -> Inst
 }
 
 // The instruction that has these numbers.
-pub fn inst_of(operation: u32, rd: u32, rs1: u32, rs2: u32, imm: u32) -> Built
+pub fn inst_of(operation: u32, rd: u32, rs1: u32, rs2: u32, imm: u32) -> Option<Inst>
     ensures { result ≡ inst_of (parts operation rd rs1 rs2 imm) }
 {
     if operation > 47 {
-        return Built::OutOfRange;
+        return None;
     }
-    let Named::Register(d) = Reg::new(rd) else {
-        return Built::OutOfRange;
-    };
-    let Named::Register(s) = Reg::new(rs1) else {
-        return Built::OutOfRange;
-    };
-    let Named::Register(t) = Reg::new(rs2) else {
-        return Built::OutOfRange;
-    };
     let operation = operation as u8;
+    let i = built(
+        operation,
+        Reg::new(rd)?,
+        Reg::new(rs1)?,
+        Reg::new(rs2)?,
+        imm,
+    );
     let given = Parts {
         operation,
         rd,
@@ -103,9 +101,5 @@ pub fn inst_of(operation: u32, rd: u32, rs1: u32, rs2: u32, imm: u32) -> Built
         rs2,
         imm,
     };
-    let i = built(operation, d, s, t, imm);
-    if !same_parts(parts_of(i), given) {
-        return Built::OutOfRange;
-    }
-    Built::Instruction(i)
+    (parts_of(i) == given).then_some(i)
 }

@@ -5,10 +5,7 @@ ghost use Rattle.std.specs.Prelude.{◌≡◌};
 ghost use Rattle.answers.specs.Outcomes.{outcome};
 ghost use Rattle.c_assembly.specs.Assembly.{assemble_call};
 
-use assembler::Assembled;
-
-// The refusal that is of no line: room shorter than the whole output.
-const NO_LINE: u32 = 13;
+use answers::{Refusal, reply};
 
 // The codes of lines of text. Refuses with 10, 11 and 12, which tell the line and the byte, and with 13.
 pub fn phuyurik_assemble(
@@ -20,19 +17,13 @@ pub fn phuyurik_assemble(
 ) -> u32
     ensures { outcome result ((length.new, (line.new, byte.new)), room.new) ≡ assemble_call text.now room.old length.old (line.old, byte.old) }
 {
-    match assembler::assemble(text, room) {
-        Assembled::Length(n) => {
-            *length = n;
-            0
-        }
-        Assembled::Refused(why, at_line, at_byte) => {
-            let number = why.number() as u32;
-            if number == NO_LINE {
-                return number;
-            }
-            *line = at_line;
-            *byte = at_byte;
-            number
-        }
+    let done = assembler::assemble(text, room);
+    // Room shorter than the whole output is of no line.
+    if let Err(fault) = done
+        && !matches!(fault.refusal, Refusal::OutputRoom)
+    {
+        *line = fault.line;
+        *byte = fault.byte;
     }
+    reply(done.map_err(|fault| fault.refusal), length)
 }

@@ -1,8 +1,7 @@
 -- The C interface, bits to instructions: what each call returns, and what it leaves in its place.
-use Rattle.std.specs.Prelude.{ℕ, List}
+use Rattle.std.specs.Prelude.{ℕ, List, Option}
 use Rattle.answers.specs.Answer.{Answer, given, refused_with}
 use Rattle.isa.specs.declared.Inst.{Inst}
-use Rattle.isa.specs.declared.Decoded.{Decoded}
 use Rattle.isa.specs.Decoding.{decoded}
 use Rattle.isa.specs.Rvc.{expanded}
 use Rattle.isa.specs.Answers.{of_decoded}
@@ -24,7 +23,7 @@ abbrev pub chart_call : ℕ → ℕ → Outcome ℕ ℕ
 chart_call bits format = told (given (charted bits)) format
 
 -- what bits mean, where these numbers stood
-abbrev pub meant : List ℕ → Decoded → Outcome ℕ (List ℕ)
+abbrev pub meant : List ℕ → Option Inst → Outcome ℕ (List ℕ)
 meant inst d = told (numbered (of_decoded d)) inst
 
 abbrev pub decode_call : ℕ → List ℕ → Outcome ℕ (List ℕ)

@@ -6,9 +6,8 @@ ghost use Rattle.std.specs.Prelude.{◌≡◌};
 ghost use Rattle.answers.specs.Outcomes.{outcome};
 ghost use Rattle.c_codes.specs.Codes.{version, chart_call, decode_call, expand_call};
 
-use answers::Refusal;
+use answers::{Refusal, reply};
 use calls::numbers_of;
-use isa::Decoded;
 
 const VERSION: u32 = 0x000700;
 
@@ -31,20 +30,14 @@ pub fn phuyurik_chart(bits: u32, format: &mut u8) -> u32
 pub fn phuyurik_decode(bits: u32, inst: &mut [u32; 5]) -> u32
     ensures { outcome result inst.new ≡ decode_call bits inst.old }
 {
-    let Decoded::Legal(i) = decoder::decode(bits) else {
-        return Refusal::NoInstruction.number() as u32;
-    };
-    *inst = numbers_of(i);
-    0
+    let numbers = decoder::decode(bits).map(numbers_of);
+    reply(numbers.ok_or(Refusal::NoInstruction), inst)
 }
 
 // What 16 bits mean. Refuses with 7.
 pub fn phuyurik_expand(bits: u16, inst: &mut [u32; 5]) -> u32
     ensures { outcome result inst.new ≡ expand_call bits inst.old }
 {
-    let Decoded::Legal(i) = expander::expand(bits) else {
-        return Refusal::NoInstruction.number() as u32;
-    };
-    *inst = numbers_of(i);
-    0
+    let numbers = expander::expand(bits).map(numbers_of);
+    reply(numbers.ok_or(Refusal::NoInstruction), inst)
 }

@@ -3,11 +3,12 @@
 
 ghost use Rattle.std.specs.Prelude.{◌≡◌};
 ghost use Rattle.answers.specs.Outcomes.{outcome};
-ghost use Rattle.boards.specs.Boards.{board, masks};
+ghost use Rattle.boards.specs.Boards.{board, grant};
 ghost use Rattle.resume.specs.Resuming.{shared_bench};
 ghost use Rattle.run_calls.specs.Runs.{step_call, run_call, resume_call};
 
-use resume::run_slot_masked;
+use boards::Grant;
+use resume::run_slot;
 use run_calls::answer;
 
 // One step. Refuses with 1, 2, 3, 16, 5, 14 and 15.
@@ -19,11 +20,11 @@ pub fn phuyurik_step_masked(
     other: u64,
     word: &mut usize,
 ) -> u32
-    ensures { outcome result (word.new, shared_bench (masks own other) (board mem.new row.new) state.new) ≡ step_call (shared_bench (masks own other) (board mem.old row.old) state.old) word.old }
+    ensures { outcome result (word.new, shared_bench (grant own other) (board mem.new row.new) state.new) ≡ step_call (shared_bench (grant own other) (board mem.old row.old) state.old) word.old }
 {
     let mut retired = 0;
     answer(
-        run_slot_masked(mem, row, state, 0, own, other, 1),
+        run_slot(mem, row, state, 0, Grant { own, other }, 1),
         &mut retired,
         word,
     )
@@ -40,10 +41,10 @@ pub fn phuyurik_run_masked(
     retired: &mut u64,
     word: &mut usize,
 ) -> u32
-    ensures { outcome result ((retired.new, word.new), shared_bench (masks own other) (board mem.new row.new) state.new) ≡ run_call budget (shared_bench (masks own other) (board mem.old row.old) state.old) retired.old word.old }
+    ensures { outcome result ((retired.new, word.new), shared_bench (grant own other) (board mem.new row.new) state.new) ≡ run_call budget (shared_bench (grant own other) (board mem.old row.old) state.old) retired.old word.old }
 {
     answer(
-        run_slot_masked(mem, row, state, 0, own, other, budget),
+        run_slot(mem, row, state, 0, Grant { own, other }, budget),
         retired,
         word,
     )
@@ -62,10 +63,10 @@ pub fn phuyurik_run_slot_masked(
     retired: &mut u64,
     word: &mut usize,
 ) -> u32
-    ensures { outcome result ((retired.new, word.new), shared_bench (masks own other) (board mem.new row.new) slots.new) ≡ resume_call budget k (shared_bench (masks own other) (board mem.old row.old) slots.old) retired.old word.old }
+    ensures { outcome result ((retired.new, word.new), shared_bench (grant own other) (board mem.new row.new) slots.new) ≡ resume_call budget k (shared_bench (grant own other) (board mem.old row.old) slots.old) retired.old word.old }
 {
     answer(
-        run_slot_masked(mem, row, slots, k, own, other, budget),
+        run_slot(mem, row, slots, k, Grant { own, other }, budget),
         retired,
         word,
     )

@@ -1,6 +1,5 @@
 // The C interface, steps and runs. A state is lent as its record, a buffer of one slot, which is read, run and
-// written back. Without masks all words are the recipe's own: `resume::run_slot` says the same, but with a
-// call more between the export and the loop a step takes 2 to 4 in 100 longer.
+// written back. Without masks all words are the recipe's own.
 #![tactic(auto)]
 
 ghost use Rattle.std.specs.Prelude.{◌≡◌};
@@ -9,8 +8,8 @@ ghost use Rattle.boards.specs.Boards.{board};
 ghost use Rattle.resume.specs.Resuming.{bench};
 ghost use Rattle.run_calls.specs.Runs.{step_call, run_call, resume_call};
 
-use boards::ALL_WORDS;
-use resume::run_slot_masked;
+use boards::Grant;
+use resume::run_slot;
 use run_calls::answer;
 
 // One step. Refuses with 1, 2, 3, 5, 14 and 15.
@@ -19,7 +18,7 @@ pub fn phuyurik_step(state: &mut [u8; 144], mem: &mut [u8], row: &mut [u8], word
 {
     let mut retired = 0;
     answer(
-        run_slot_masked(mem, row, state, 0, ALL_WORDS, 0, 1),
+        run_slot(mem, row, state, 0, Grant::alone(), 1),
         &mut retired,
         word,
     )
@@ -37,7 +36,7 @@ pub fn phuyurik_run(
     ensures { outcome result ((retired.new, word.new), bench (board mem.new row.new) state.new) ≡ run_call budget (bench (board mem.old row.old) state.old) retired.old word.old }
 {
     answer(
-        run_slot_masked(mem, row, state, 0, ALL_WORDS, 0, budget),
+        run_slot(mem, row, state, 0, Grant::alone(), budget),
         retired,
         word,
     )
@@ -56,7 +55,7 @@ pub fn phuyurik_run_slot(
     ensures { outcome result ((retired.new, word.new), bench (board mem.new row.new) slots.new) ≡ resume_call budget k (bench (board mem.old row.old) slots.old) retired.old word.old }
 {
     answer(
-        run_slot_masked(mem, row, slots, k, ALL_WORDS, 0, budget),
+        run_slot(mem, row, slots, k, Grant::alone(), budget),
         retired,
         word,
     )

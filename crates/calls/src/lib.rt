@@ -7,7 +7,7 @@ ghost use Rattle.isa.specs.Building.{inst_of};
 ghost use Rattle.calls.specs.Calls.{numbers_of, parts_in};
 
 use builder::inst_of;
-use isa::{Built, Inst};
+use isa::Inst;
 use parts::parts_of;
 
 // The five numbers of an instruction.
@@ -15,13 +15,13 @@ pub fn numbers_of(i: Inst) -> [u32; 5]
     ensures { result ≡ numbers_of i }
 {
     let p = parts_of(i);
-    [p.operation as u32, p.rd, p.rs1, p.rs2, p.imm]
+    [u32::from(p.operation), p.rd, p.rs1, p.rs2, p.imm]
 }
 
 // The instruction that has these five numbers.
-pub fn inst_in(inst: &[u32; 5]) -> Built
+pub fn inst_in(inst: &[u32; 5]) -> Option<Inst>
     ensures { result ≡ inst_of (parts_in inst.now) }
 {
-    let n = *inst;
-    inst_of(n[0], n[1], n[2], n[3], n[4])
+    let [operation, rd, rs1, rs2, imm] = *inst;
+    inst_of(operation, rd, rs1, rs2, imm)
 }

@@ -5,7 +5,7 @@ ghost use Rattle.std.specs.Prelude.{◌≡◌};
 ghost use Rattle.chart.specs.Chart.{charted};
 
 // A row for each value of bits 6 to 2, from 00000 to 11111, and in it an entry for each funct3.
-// An entry is a format class: 0 none, 1 R, 2 I, 3 S, 4 B, 5 U, 6 J.
+// An entry is a format class, as the number that a C call gets: 0 none, 1 R, 2 I, 3 S, 4 B, 5 U, 6 J.
 const CHART: [u8; 256] = *b"\
     \x02\x02\x02\x00\x02\x02\x00\x00\
     \x00\x00\x00\x00\x00\x00\x00\x00\

@@ -1,9 +1,10 @@
 -- What the coder finds is what the definition says.
-use mathlib.Core.Path.{◌≡◌, refl, ap, sym, ◌∙◌, subst}
 use mathlib.Core.Logic.{inl, inr}
+use mathlib.Core.Path.{◌≡◌, refl, ap, sym, ◌∙◌, subst}
 use mathlib.Core.List.{List, [], ◌∷◌}
 use mathlib.Core.Bool.{Bool, true, false, cond}
 use Prim.Native.Nat.{ℕ, ◌≤◌}
+use native.Mathlib.Omega.{arith}
 use native.Mathlib.Nat.{mod-eq_of_lt}
 use lib.Dec.{T, eqb, ltb, ltb→lt}
 use lib.ListN.{length, drop}
@@ -11,10 +12,6 @@ use Rattle.answers.specs.declared.Refusal.TheVariants as R
 use Rattle.word.specs.Bits.{low}
 use Rattle.word.proofs.Bools.{is_true}
 use Rattle.isa.specs.declared.Inst.{Inst}
-use Rattle.isa.specs.declared.Encoded.{Encoded}
-use Rattle.isa.specs.declared.Encoded.TheVariants as E
-use Rattle.isa.specs.declared.Shortened.{Shortened}
-use Rattle.isa.specs.declared.Shortened.TheVariants as H
 use Rattle.isa.specs.Operations.{parts}
 use Rattle.isa.specs.Building.{built}
 use Rattle.isa.specs.Encoding.{in_range, word_of, encoded}
@@ -27,41 +24,40 @@ use Rattle.assembly.specs.Assembly.{instruction, faulty, half_of, code_of, unles
 use Rattle.assembly.proofs.Places.{read-line}
 use Rattle.assembly.proofs.Only.{its, all-allowed, value_small}
 use Rattle.reader.specs.declared.Fields.{Fields}
-use Rattle.reader.specs.declared.Line.{Line}
-use Rattle.reader.specs.declared.Line.TheVariants.{Reads, Unreadable}
 use Rattle.reader.specs.Reading.{fields, no_fields, put, fault, taken}
-use Rattle.reader.specs.Line.{taken_all, first_line, Same}
+use Rattle.reader.specs.Line.{Line, Reads, Unreadable, taken_all, first_line, Same}
 use Rattle.reader.proofs.Telling.{told}
-use Rattle.coder.specs.declared.Coded.{Coded}
-use Rattle.coder.specs.declared.Coded.TheVariants.{Refused}
-use Rattle.coder.specs.Coding.{inst_read, halved, worded, coded_line, code_line, meant, CodedWithin}
+use Rattle.std.specs.Option.{option_or}
+use Rattle.coder.specs.Coding.{Coded, unless_wrong_at, inst_read, halved, worded, coded_line, code_line, meant, CodedWithin}
+use Rattle.isa.specs.declared.Unshortened.TheVariants as U
+use Rattle.isa.specs.declared.Unshortened.{Unshortened}
+use Rattle.std.specs.Prelude.{Err, None, Ok, Option, Result, Some}
 
 -- ---- the fields after the numbers of a line
 
-record Faulty (x : Fields) (p : ℕ) : Type 0 where
-  is : x.wrong ≡ true
-  at : x.place ≡ p
+Faulty : Fields → ℕ → Type 0
+Faulty x p = x.wrong ≡ Some p
 
 -- the leftmost wrong number stays
 faulty_stays : (k : ℕ) (ws : List L.Word) (x : Fields) (p : ℕ) → Faulty x p → Faulty (taken_all k ws x) p
-unfolding taken_all
+unfolding taken_all Faulty
 faulty_stays k [] x p h = h
 faulty_stays k (w ∷ ws) x p h = faulty_stays k ws (taken k w x) p (go (allowed k w))
   where
     go : (t : Bool) → Faulty (cond t (put w.of (value_of w.of w.digits) x) (fault w.place x)) p
-    go true = record { is = h.is; at = h.at }
-    go false = record { is = refl; at = ap (λ (t : Bool). cond t x.place w.place) h.is ∙ h.at }
+    go true = h
+    go false = ap (λ (o : Option ℕ). option_or o (Some w.place)) h
 
 -- what the numbers say
 Told : Checked → Fields → Fields → Type 0
 Told right x y = x ≡ y
 Told (wrong p) x y = Faulty x p
 
-fields_told : (k : ℕ) (ws : List L.Word) (d s t v p : ℕ)
-    → Told (checked k ws) (taken_all k ws (fields d s t v false p)) (fields (after 1 d ws) (after 2 s ws) (after 3 t ws) (after 4 v ws) false p)
-unfolding taken_all checked after Told
-fields_told k [] d s t v p = refl
-fields_told k (w ∷ ws) d s t v p = go (allowed k w) (λ d s t v. fields_told k ws d s t v p)
+fields_told : (k : ℕ) (ws : List L.Word) (d s t v : ℕ)
+    → Told (checked k ws) (taken_all k ws (fields d s t v None)) (fields (after 1 d ws) (after 2 s ws) (after 3 t ws) (after 4 v ws) None)
+unfolding taken_all checked after Told Faulty
+fields_told k [] d s t v = refl
+fields_told k (w ∷ ws) d s t v = go (allowed k w) (λ d s t v. fields_told k ws d s t v)
   where
     f : ℕ
     f = w.of
@@ -69,27 +65,27 @@ fields_told k (w ∷ ws) d s t v p = go (allowed k w) (λ d s t v. fields_told k
     u : ℕ
     u = value_of w.of w.digits
 
-    go : (b : Bool) → ((d s t v : ℕ) → Told (checked k ws) (taken_all k ws (fields d s t v false p)) (fields (after 1 d ws) (after 2 s ws) (after 3 t ws) (after 4 v ws) false p))
-        → Told (cond b (checked k ws) (wrong w.place)) (taken_all k ws (cond b (put f u (fields d s t v false p)) (fault w.place (fields d s t v false p))))
-        (fields (after 1 (cond (eqb 1 f) u d) ws) (after 2 (cond (eqb 2 f) u s) ws) (after 3 (cond (eqb 3 f) u t) ws) (after 4 (cond (eqb 4 f) u v) ws) false p)
+    go : (b : Bool) → ((d s t v : ℕ) → Told (checked k ws) (taken_all k ws (fields d s t v None)) (fields (after 1 d ws) (after 2 s ws) (after 3 t ws) (after 4 v ws) None))
+        → Told (cond b (checked k ws) (wrong w.place)) (taken_all k ws (cond b (put f u (fields d s t v None)) (fault w.place (fields d s t v None))))
+        (fields (after 1 (cond (eqb 1 f) u d) ws) (after 2 (cond (eqb 2 f) u s) ws) (after 3 (cond (eqb 3 f) u t) ws) (after 4 (cond (eqb 4 f) u v) ws) None)
     go true ih = ih (cond (eqb 1 f) u d) (cond (eqb 2 f) u s) (cond (eqb 3 f) u t) (cond (eqb 4 f) u v)
-    go false ih = faulty_stays k ws (fields d s t v true w.place) w.place (record { is = refl; at = refl })
+    go false ih = faulty_stays k ws (fields d s t v (Some w.place)) w.place refl
 
 -- ---- the code
 
-half-meant : (s : List ℕ) (n : ℕ) (h : Shortened) → meant s (halved h n) ≡ half_of h (drop n s)
-half-meant s n (H.Half h) = refl
-half-meant s n H.OutOfRange = refl
-half-meant s n H.NoShortForm = refl
+half-meant : (s : List ℕ) (n : ℕ) (h : Result ℕ Unshortened) → meant s (halved h n) ≡ half_of h (drop n s)
+half-meant s n (Ok h) = refl
+half-meant s n (Err U.OutOfRange) = refl
+half-meant s n (Err U.NoShortForm) = refl
 
-half-within : (l n : ℕ) (h : Shortened) → n ≤ l → CodedWithin l (halved h n)
-half-within l n (H.Half h) m = (inr refl, m)
-half-within l n H.OutOfRange m = tt
-half-within l n H.NoShortForm m = tt
+half-within : (l n : ℕ) (h : Result ℕ Unshortened) → n ≤ l → CodedWithin l (halved h n)
+half-within l n (Ok h) m = (inr refl, m)
+half-within l n (Err U.OutOfRange) m = tt
+half-within l n (Err U.NoShortForm) m = tt
 
-word-within : (l n : ℕ) (w : Encoded) → n ≤ l → CodedWithin l (worded w n)
-word-within l n (E.Bits w) m = (inl refl, m)
-word-within l n E.OutOfRange m = tt
+word-within : (l n : ℕ) (w : Option ℕ) → n ≤ l → CodedWithin l (worded w n)
+word-within l n (Some w) m = (inl refl, m)
+word-within l n None m = tt
 
 -- ---- a line that the reader finds
 
@@ -130,33 +126,38 @@ module _ (s : List ℕ) (c : Bool) (k : ℕ) (x : Fields) (n : ℕ) (e : Reads c
   unfolding ws
   reading = ap meaning_of f.line
 
-  told-fields : Told (checked k ws) x (fields (value 1 ws) (value 2 ws) (value 3 ws) (value 4 ws) false 0)
+  told-fields : Told (checked k ws) x (fields (value 1 ws) (value 2 ws) (value 3 ws) (value 4 ws) None)
   unfolding ws
-  told-fields = subst (λ (x : Fields). Told (checked k ws) x (fields (value 1 ws) (value 2 ws) (value 3 ws) (value 4 ws) false 0)) (sym f.holds) (fields_told k ws 0 0 0 0 0)
+  told-fields = subst (λ (x : Fields). Told (checked k ws) x (fields (value 1 ws) (value 2 ws) (value 3 ws) (value 4 ws) None)) (sym f.holds) (fields_told k ws 0 0 0 0)
 
-  wrong-line : x.wrong ≡ true → faulty R.NumberNotAllowed x.place ≡ meaning s
-  unfolding Told
-  wrong-line w = go (checked k ws) refl told-fields
+  wrong-line : (p : ℕ) → x.wrong ≡ Some p → faulty R.NumberNotAllowed p ≡ meaning s
+  unfolding Told Faulty
+  wrong-line p w = go (checked k ws) refl told-fields
     where
-      go : (t : Checked) → checked k ws ≡ t → Told t x (fields (value 1 ws) (value 2 ws) (value 3 ws) (value 4 ws) false 0) → faulty R.NumberNotAllowed x.place ≡ meaning s
+      go : (t : Checked) → checked k ws ≡ t → Told t x (fields (value 1 ws) (value 2 ws) (value 3 ws) (value 4 ws) None) → faulty R.NumberNotAllowed p ≡ meaning s
       go right q h =
-          let z : true ≡ false = sym w ∙ ap (λ (x : Fields). x.wrong) h in
-          absurd (subst T z tt)
-      go (wrong p) q h = ap (faulty R.NumberNotAllowed) h.at ∙ sym (reading ∙ ap (λ (t : Checked). unless_wrong t (code_of c (instruction k ws) (drop n s))) q)
+          let z : Some p ≡ None = sym w ∙ ap (λ (x : Fields). x.wrong) h in
+          let y : ◌≡◌ {A = ℕ} 0 1 = cc in
+          absurd (omega arith)
+      go (wrong o) q h =
+          let z : Some p ≡ Some o = sym w ∙ h in
+          let y : p ≡ o = cc in
+          ap (faulty R.NumberNotAllowed) y ∙ sym (reading ∙ ap (λ (t : Checked). unless_wrong t (code_of c (instruction k ws) (drop n s))) q)
 
   small : (v : ℕ) → T (ltb v 32) → low 5 v ≡ v
   small v t = mod-eq_of_lt (ltb→lt v 32 t)
 
   -- the instruction is in range, and its code is meant
-  right-line : x.wrong ≡ false → (in_range (inst_read k x) ≡ true) × (code_of c (inst_read k x) (drop n s) ≡ meaning s)
-  unfolding Told instruction ws
+  right-line : x.wrong ≡ None → (in_range (inst_read k x) ≡ true) × (code_of c (inst_read k x) (drop n s) ≡ meaning s)
+  unfolding Told Faulty instruction ws
   right-line w = go (checked k ws) refl told-fields
     where
-      go : (t : Checked) → checked k ws ≡ t → Told t x (fields (value 1 ws) (value 2 ws) (value 3 ws) (value 4 ws) false 0)
+      go : (t : Checked) → checked k ws ≡ t → Told t x (fields (value 1 ws) (value 2 ws) (value 3 ws) (value 4 ws) None)
           → (in_range (inst_read k x) ≡ true) × (code_of c (inst_read k x) (drop n s) ≡ meaning s)
       go (wrong p) q h =
-          let z : true ≡ false = sym h.is ∙ w in
-          absurd (subst T z tt)
+          let z : Some p ≡ None = sym h ∙ w in
+          let y : ◌≡◌ {A = ℕ} 0 1 = cc in
+          absurd (omega arith)
       go right q h =
           let l = read-line s c k ws (drop n s) f.line in
           let a = all-allowed k ws q in
@@ -170,23 +171,23 @@ module _ (s : List ℕ) (c : Bool) (k : ℕ) (x : Fields) (n : ℕ) (e : Reads c
   Meant : Coded → Type 0
   Meant r = (meant s r ≡ meaning s) × CodedWithin (length s) r
 
-  right-meant : x.wrong ≡ false → (b : Bool) → c ≡ b → Meant (cond b (halved (shortened (inst_read k x)) n) (worded (encoded (inst_read k x)) n))
+  right-meant : x.wrong ≡ None → (b : Bool) → c ≡ b → Meant (cond b (halved (shortened (inst_read k x)) n) (worded (encoded (inst_read k x)) n))
   unfolding Meant
   right-meant w true t = (
     half-meant s n (shortened (inst_read k x)) ∙ sym (ap (λ (c : Bool). code_of c (inst_read k x) (drop n s)) t) ∙ (right-line w).1,
     half-within (length s) n (shortened (inst_read k x)) f.within,
   )
   right-meant w false t = (
-    ap (λ (b : Bool). meant s (worded (cond b (E.Bits (word_of (inst_read k x))) E.OutOfRange) n)) (right-line w).0
+    ap (λ (b : Bool). meant s (worded (cond b (Some (word_of (inst_read k x))) None) n)) (right-line w).0
         ∙ sym (ap (λ (c : Bool). code_of c (inst_read k x) (drop n s)) t) ∙ (right-line w).1,
     word-within (length s) n (encoded (inst_read k x)) f.within,
   )
 
-  read-meant : (b : Bool) → x.wrong ≡ b
-      → Meant (cond b (Refused R.NumberNotAllowed x.place) (cond c (halved (shortened (inst_read k x)) n) (worded (encoded (inst_read k x)) n)))
+  read-meant : (o : Option ℕ) → x.wrong ≡ o
+      → Meant (unless_wrong_at o (cond c (halved (shortened (inst_read k x)) n) (worded (encoded (inst_read k x)) n)))
   unfolding Meant
-  read-meant true w = (wrong-line w, tt)
-  read-meant false w = right-meant w c refl
+  read-meant (Some p) w = (wrong-line p w, tt)
+  read-meant None w = right-meant w c refl
 
 -- the code of the first line
 pub line-meant : (s : List ℕ) (r : Coded) → r ≡ code_line s → (meant s r ≡ meaning s) × CodedWithin (length s) r
@@ -194,5 +195,5 @@ unfolding Meant
 line-meant s r e = subst (λ (r : Coded). (meant s r ≡ meaning s) × CodedWithin (length s) r) (sym e) (go (first_line s) refl)
   where
     go : (l : Line) → l ≡ first_line s → (meant s (coded_line l) ≡ meaning s) × CodedWithin (length s) (coded_line l)
-    go (Unreadable p) q = (unread s p q, tt)
-    go (Reads c k x n) q = read-meant s c k x n q x.wrong refl
+    go (Err p) q = (unread s p q, tt)
+    go (Ok l) q = read-meant s l.short l.operation l.fields l.end q l.fields.wrong refl

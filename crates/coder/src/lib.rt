@@ -2,23 +2,39 @@
 #![tactic(auto)]
 
 ghost use Rattle.std.specs.Prelude.{◌≡◌};
-ghost use Rattle.coder.specs.Coding.{inst_read, halved, worded, code_line};
+ghost use Rattle.coder.specs.Coding.{fault_at, inst_read, halved, worded, code_line};
 ghost use Rattle.isa.specs.Encoding.{encoded};
 ghost use Rattle.isa.specs.Shortening.{shortened};
 
 use answers::Refusal;
 use builder::built;
 use encoder::encode;
-use isa::{Encoded, Inst, Reg, Shortened};
-use reader::{Fields, Line, first_line};
+use isa::{Inst, Reg};
+use octets::Width;
+use reader::{Fields, first_line};
 use shortener::shorten;
 
-// The bits of a code, its size in bytes, 4 or 2, and the place after the line; or a refusal and its
-// byte.
+// The code of a line: its bits, as a word's or a halfword's bytes, and the place after the line.
 #[derive(Clone, Copy)]
-pub enum Coded {
-    Code(u32, usize, usize),
-    Refused(Refusal, usize),
+pub struct Code {
+    pub bits: u32,
+    pub width: Width,
+    pub end: usize,
+}
+
+// Why a line has no code, and the byte of the line that is at fault.
+#[derive(Clone, Copy)]
+pub struct Fault {
+    pub refusal: Refusal,
+    pub byte: usize,
+}
+
+impl Fault {
+    fn new(refusal: Refusal, byte: usize) -> Fault
+        ensures { result ≡ fault_at refusal byte }
+    {
+        Fault { refusal, byte }
+    }
 }
 
 // The numbers of a line that is not at fault fit their fields.
@@ -31,40 +47,35 @@ fn inst_of(operation: u8, fields: Fields) -> Inst
     built(operation, rd, rs1, rs2, fields.imm)
 }
 
-fn word_of(i: Inst, end: usize) -> Coded
+fn word_of(i: Inst, end: usize) -> Result<Code, Fault>
     ensures { result ≡ worded (encoded i) end }
 {
-    match encode(i) {
-        Encoded::Bits(w) => Coded::Code(w, 4, end),
-        Encoded::OutOfRange => Coded::Refused(Refusal::NumberNotAllowed, 0),
-    }
+    let bits = encode(i).ok_or(Fault::new(Refusal::NumberNotAllowed, 0))?;
+    let width = Width::Four;
+    Ok(Code { bits, width, end })
 }
 
-fn half_of(i: Inst, end: usize) -> Coded
+fn half_of(i: Inst, end: usize) -> Result<Code, Fault>
     ensures { result ≡ halved (shortened i) end }
 {
-    match shorten(i) {
-        Shortened::Half(h) => Coded::Code(h as u32, 2, end),
-        Shortened::OutOfRange => Coded::Refused(Refusal::NoShortLine, 0),
-        Shortened::NoShortForm => Coded::Refused(Refusal::NoShortLine, 0),
-    }
+    let half = shorten(i).map_err(|_| Fault::new(Refusal::NoShortLine, 0))?;
+    let bits = half as u32;
+    let width = Width::Two;
+    Ok(Code { bits, width, end })
 }
 
 // What the first line of a text gives. Refuses with 10, 11 and 12.
-pub fn code_line(text: &[u8]) -> Coded
+pub fn code_line(text: &[u8]) -> Result<Code, Fault>
     ensures { result ≡ code_line text.now }
 {
-    match first_line(text) {
-        Line::Unreadable(byte) => Coded::Refused(Refusal::Unreadable, byte),
-        Line::Reads(short, operation, fields, end) => {
-            if fields.wrong {
-                return Coded::Refused(Refusal::NumberNotAllowed, fields.place);
-            }
-            let i = inst_of(operation, fields);
-            if short {
-                return half_of(i, end);
-            }
-            word_of(i, end)
-        }
+    let line = first_line(text).map_err(|byte| Fault::new(Refusal::Unreadable, byte))?;
+    if let Some(byte) = line.fields.wrong {
+        return Err(Fault::new(Refusal::NumberNotAllowed, byte));
+    }
+    let i = inst_of(line.operation, line.fields);
+    if line.short {
+        half_of(i, line.end)
+    } else {
+        word_of(i, line.end)
     }
 }

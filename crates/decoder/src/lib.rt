@@ -2,14 +2,12 @@
 // opcode picks the group, and funct3 and funct7 pick the operation in it.
 #![tactic(auto)]
 
-ghost use Rattle.std.specs.Prelude.{◌≡◌, [], ◌∷◌};
+ghost use Rattle.std.specs.Prelude.{◌≡◌, [], ◌∷◌, Some, None};
 ghost use Rattle.word.specs.Tables.{find};
-ghost use Rattle.isa.specs.declared.Decoded.TheVariants.{Legal, Illegal};
-ghost use Rattle.isa.specs.declared.Inst.TheVariants.{Branch, Load, Imm, Arith, MulDiv};
 ghost use Rattle.isa.specs.Fields.{imm_i, imm_s, imm_b, imm_j};
 ghost use Rattle.isa.specs.Decoding.{decode_branch, decode_load, decode_store, rights, decode_shift, decode_immediate, ariths, others, decode_arith, decode_mul_div, decode_register, decode_system, decoded};
 
-use isa::{ArithOp, Cond, Decoded, ImmOp, Inst, LoadOp, MulDivOp, Reg, ShiftOp, StoreOp};
+use isa::{ArithOp, Cond, ImmOp, Inst, LoadOp, MulDivOp, Reg, ShiftOp, StoreOp};
 
 // The opcodes, as the manual names them.
 const LUI: u32 = 0b0110111;
@@ -74,185 +72,152 @@ fn imm_j(bits: u32) -> u32
 }
 
 // The instruction if its code is 0: no other code of it is legal.
-fn if_zero(code: u32, inst: Inst) -> Decoded
-    ensures { result ≡ find Illegal ((0, Legal inst) ∷ []) code (λ m. m) }
+fn if_zero(code: u32, inst: Inst) -> Option<Inst>
+    ensures { result ≡ find None ((0, Some inst) ∷ []) code (λ m. m) }
 {
-    match code {
-        0 => Decoded::Legal(inst),
-        _ => Decoded::Illegal,
-    }
-}
-
-// The instructions that several arms make: an arm that is one call is quicker to prove.
-fn a_branch(op: Cond, rs1: Reg, rs2: Reg, imm: u32) -> Decoded
-    ensures { result ≡ Legal (Branch op rs1 rs2 imm) }
-{
-    Decoded::Legal(Inst::Branch(op, rs1, rs2, imm))
-}
-
-fn a_load(op: LoadOp, rd: Reg, rs1: Reg, imm: u32) -> Decoded
-    ensures { result ≡ Legal (Load op rd rs1 imm) }
-{
-    Decoded::Legal(Inst::Load(op, rd, rs1, imm))
-}
-
-fn an_imm(op: ImmOp, rd: Reg, rs1: Reg, imm: u32) -> Decoded
-    ensures { result ≡ Legal (Imm op rd rs1 imm) }
-{
-    Decoded::Legal(Inst::Imm(op, rd, rs1, imm))
-}
-
-fn an_arith(op: ArithOp, rd: Reg, rs1: Reg, rs2: Reg) -> Decoded
-    ensures { result ≡ Legal (Arith op rd rs1 rs2) }
-{
-    Decoded::Legal(Inst::Arith(op, rd, rs1, rs2))
-}
-
-fn a_mul_div(op: MulDivOp, rd: Reg, rs1: Reg, rs2: Reg) -> Decoded
-    ensures { result ≡ Legal (MulDiv op rd rs1 rs2) }
-{
-    Decoded::Legal(Inst::MulDiv(op, rd, rs1, rs2))
+    (code == 0).then_some(inst)
 }
 
 // BRANCH, by funct3.
-fn branch(funct3: u32, rs1: Reg, rs2: Reg, imm: u32) -> Decoded
+fn branch(funct3: u32, rs1: Reg, rs2: Reg, imm: u32) -> Option<Inst>
     ensures { result ≡ decode_branch funct3 rs1 rs2 imm }
 {
     match funct3 {
-        0b000 => a_branch(Cond::Beq, rs1, rs2, imm),
-        0b001 => a_branch(Cond::Bne, rs1, rs2, imm),
-        0b100 => a_branch(Cond::Blt, rs1, rs2, imm),
-        0b101 => a_branch(Cond::Bge, rs1, rs2, imm),
-        0b110 => a_branch(Cond::Bltu, rs1, rs2, imm),
-        0b111 => a_branch(Cond::Bgeu, rs1, rs2, imm),
-        _ => Decoded::Illegal,
+        0b000 => Some(Inst::Branch(Cond::Beq, rs1, rs2, imm)),
+        0b001 => Some(Inst::Branch(Cond::Bne, rs1, rs2, imm)),
+        0b100 => Some(Inst::Branch(Cond::Blt, rs1, rs2, imm)),
+        0b101 => Some(Inst::Branch(Cond::Bge, rs1, rs2, imm)),
+        0b110 => Some(Inst::Branch(Cond::Bltu, rs1, rs2, imm)),
+        0b111 => Some(Inst::Branch(Cond::Bgeu, rs1, rs2, imm)),
+        _ => None,
     }
 }
 
 // LOAD, by funct3.
-fn load(funct3: u32, rd: Reg, rs1: Reg, imm: u32) -> Decoded
+fn load(funct3: u32, rd: Reg, rs1: Reg, imm: u32) -> Option<Inst>
     ensures { result ≡ decode_load funct3 rd rs1 imm }
 {
     match funct3 {
-        0b000 => a_load(LoadOp::Lb, rd, rs1, imm),
-        0b001 => a_load(LoadOp::Lh, rd, rs1, imm),
-        0b010 => a_load(LoadOp::Lw, rd, rs1, imm),
-        0b100 => a_load(LoadOp::Lbu, rd, rs1, imm),
-        0b101 => a_load(LoadOp::Lhu, rd, rs1, imm),
-        _ => Decoded::Illegal,
+        0b000 => Some(Inst::Load(LoadOp::Lb, rd, rs1, imm)),
+        0b001 => Some(Inst::Load(LoadOp::Lh, rd, rs1, imm)),
+        0b010 => Some(Inst::Load(LoadOp::Lw, rd, rs1, imm)),
+        0b100 => Some(Inst::Load(LoadOp::Lbu, rd, rs1, imm)),
+        0b101 => Some(Inst::Load(LoadOp::Lhu, rd, rs1, imm)),
+        _ => None,
     }
 }
 
 // STORE, by funct3.
-fn store(funct3: u32, rs1: Reg, rs2: Reg, imm: u32) -> Decoded
+fn store(funct3: u32, rs1: Reg, rs2: Reg, imm: u32) -> Option<Inst>
     ensures { result ≡ decode_store funct3 rs1 rs2 imm }
 {
     match funct3 {
-        0b000 => Decoded::Legal(Inst::Store(StoreOp::Sb, rs1, rs2, imm)),
-        0b001 => Decoded::Legal(Inst::Store(StoreOp::Sh, rs1, rs2, imm)),
-        0b010 => Decoded::Legal(Inst::Store(StoreOp::Sw, rs1, rs2, imm)),
-        _ => Decoded::Illegal,
+        0b000 => Some(Inst::Store(StoreOp::Sb, rs1, rs2, imm)),
+        0b001 => Some(Inst::Store(StoreOp::Sh, rs1, rs2, imm)),
+        0b010 => Some(Inst::Store(StoreOp::Sw, rs1, rs2, imm)),
+        _ => None,
     }
 }
 
 // OP-IMM with funct3 101, by funct7.
-fn shift_right(funct7: u32, rd: Reg, rs1: Reg, amount: u32) -> Decoded
+fn shift_right(funct7: u32, rd: Reg, rs1: Reg, amount: u32) -> Option<Inst>
     ensures { result ≡ decode_shift rights funct7 rd rs1 amount }
 {
     match funct7 {
-        0b0000000 => Decoded::Legal(Inst::Shift(ShiftOp::Srli, rd, rs1, amount)),
-        0b0100000 => Decoded::Legal(Inst::Shift(ShiftOp::Srai, rd, rs1, amount)),
-        _ => Decoded::Illegal,
+        0b0000000 => Some(Inst::Shift(ShiftOp::Srli, rd, rs1, amount)),
+        0b0100000 => Some(Inst::Shift(ShiftOp::Srai, rd, rs1, amount)),
+        _ => None,
     }
 }
 
 // OP-IMM, by funct3.
-fn immediate(funct3: u32, funct7: u32, rd: Reg, rs1: Reg, amount: u32, imm: u32) -> Decoded
+fn immediate(funct3: u32, funct7: u32, rd: Reg, rs1: Reg, amount: u32, imm: u32) -> Option<Inst>
     ensures { result ≡ decode_immediate funct3 funct7 rd rs1 amount imm }
 {
     match funct3 {
-        0b000 => an_imm(ImmOp::Addi, rd, rs1, imm),
-        0b010 => an_imm(ImmOp::Slti, rd, rs1, imm),
-        0b011 => an_imm(ImmOp::Sltiu, rd, rs1, imm),
-        0b100 => an_imm(ImmOp::Xori, rd, rs1, imm),
-        0b110 => an_imm(ImmOp::Ori, rd, rs1, imm),
-        0b111 => an_imm(ImmOp::Andi, rd, rs1, imm),
+        0b000 => Some(Inst::Imm(ImmOp::Addi, rd, rs1, imm)),
+        0b010 => Some(Inst::Imm(ImmOp::Slti, rd, rs1, imm)),
+        0b011 => Some(Inst::Imm(ImmOp::Sltiu, rd, rs1, imm)),
+        0b100 => Some(Inst::Imm(ImmOp::Xori, rd, rs1, imm)),
+        0b110 => Some(Inst::Imm(ImmOp::Ori, rd, rs1, imm)),
+        0b111 => Some(Inst::Imm(ImmOp::Andi, rd, rs1, imm)),
         0b001 => if_zero(funct7, Inst::Shift(ShiftOp::Slli, rd, rs1, amount)),
         0b101 => shift_right(funct7, rd, rs1, amount),
-        _ => Decoded::Illegal,
+        _ => None,
     }
 }
 
 // OP with funct7 0000000, by funct3.
-fn arith(funct3: u32, rd: Reg, rs1: Reg, rs2: Reg) -> Decoded
+fn arith(funct3: u32, rd: Reg, rs1: Reg, rs2: Reg) -> Option<Inst>
     ensures { result ≡ decode_arith ariths funct3 rd rs1 rs2 }
 {
     match funct3 {
-        0b000 => an_arith(ArithOp::Add, rd, rs1, rs2),
-        0b001 => an_arith(ArithOp::Sll, rd, rs1, rs2),
-        0b010 => an_arith(ArithOp::Slt, rd, rs1, rs2),
-        0b011 => an_arith(ArithOp::Sltu, rd, rs1, rs2),
-        0b100 => an_arith(ArithOp::Xor, rd, rs1, rs2),
-        0b101 => an_arith(ArithOp::Srl, rd, rs1, rs2),
-        0b110 => an_arith(ArithOp::Or, rd, rs1, rs2),
-        0b111 => an_arith(ArithOp::And, rd, rs1, rs2),
-        _ => Decoded::Illegal,
+        0b000 => Some(Inst::Arith(ArithOp::Add, rd, rs1, rs2)),
+        0b001 => Some(Inst::Arith(ArithOp::Sll, rd, rs1, rs2)),
+        0b010 => Some(Inst::Arith(ArithOp::Slt, rd, rs1, rs2)),
+        0b011 => Some(Inst::Arith(ArithOp::Sltu, rd, rs1, rs2)),
+        0b100 => Some(Inst::Arith(ArithOp::Xor, rd, rs1, rs2)),
+        0b101 => Some(Inst::Arith(ArithOp::Srl, rd, rs1, rs2)),
+        0b110 => Some(Inst::Arith(ArithOp::Or, rd, rs1, rs2)),
+        0b111 => Some(Inst::Arith(ArithOp::And, rd, rs1, rs2)),
+        _ => None,
     }
 }
 
 // OP with funct7 0100000, by funct3.
-fn other_arith(funct3: u32, rd: Reg, rs1: Reg, rs2: Reg) -> Decoded
+fn other_arith(funct3: u32, rd: Reg, rs1: Reg, rs2: Reg) -> Option<Inst>
     ensures { result ≡ decode_arith others funct3 rd rs1 rs2 }
 {
     match funct3 {
-        0b000 => an_arith(ArithOp::Sub, rd, rs1, rs2),
-        0b101 => an_arith(ArithOp::Sra, rd, rs1, rs2),
-        _ => Decoded::Illegal,
+        0b000 => Some(Inst::Arith(ArithOp::Sub, rd, rs1, rs2)),
+        0b101 => Some(Inst::Arith(ArithOp::Sra, rd, rs1, rs2)),
+        _ => None,
     }
 }
 
 // OP with funct7 0000001, by funct3: the multiplications and divisions.
-fn mul_div(funct3: u32, rd: Reg, rs1: Reg, rs2: Reg) -> Decoded
+fn mul_div(funct3: u32, rd: Reg, rs1: Reg, rs2: Reg) -> Option<Inst>
     ensures { result ≡ decode_mul_div funct3 rd rs1 rs2 }
 {
     match funct3 {
-        0b000 => a_mul_div(MulDivOp::Mul, rd, rs1, rs2),
-        0b001 => a_mul_div(MulDivOp::Mulh, rd, rs1, rs2),
-        0b010 => a_mul_div(MulDivOp::Mulhsu, rd, rs1, rs2),
-        0b011 => a_mul_div(MulDivOp::Mulhu, rd, rs1, rs2),
-        0b100 => a_mul_div(MulDivOp::Div, rd, rs1, rs2),
-        0b101 => a_mul_div(MulDivOp::Divu, rd, rs1, rs2),
-        0b110 => a_mul_div(MulDivOp::Rem, rd, rs1, rs2),
-        0b111 => a_mul_div(MulDivOp::Remu, rd, rs1, rs2),
-        _ => Decoded::Illegal,
+        0b000 => Some(Inst::MulDiv(MulDivOp::Mul, rd, rs1, rs2)),
+        0b001 => Some(Inst::MulDiv(MulDivOp::Mulh, rd, rs1, rs2)),
+        0b010 => Some(Inst::MulDiv(MulDivOp::Mulhsu, rd, rs1, rs2)),
+        0b011 => Some(Inst::MulDiv(MulDivOp::Mulhu, rd, rs1, rs2)),
+        0b100 => Some(Inst::MulDiv(MulDivOp::Div, rd, rs1, rs2)),
+        0b101 => Some(Inst::MulDiv(MulDivOp::Divu, rd, rs1, rs2)),
+        0b110 => Some(Inst::MulDiv(MulDivOp::Rem, rd, rs1, rs2)),
+        0b111 => Some(Inst::MulDiv(MulDivOp::Remu, rd, rs1, rs2)),
+        _ => None,
     }
 }
 
 // OP, by funct7.
-fn register(funct7: u32, funct3: u32, rd: Reg, rs1: Reg, rs2: Reg) -> Decoded
+fn register(funct7: u32, funct3: u32, rd: Reg, rs1: Reg, rs2: Reg) -> Option<Inst>
     ensures { result ≡ decode_register funct7 funct3 rd rs1 rs2 }
 {
     match funct7 {
         0b0000000 => arith(funct3, rd, rs1, rs2),
         0b0100000 => other_arith(funct3, rd, rs1, rs2),
         0b0000001 => mul_div(funct3, rd, rs1, rs2),
-        _ => Decoded::Illegal,
+        _ => None,
     }
 }
 
 // SYSTEM: two whole words are legal, and no others.
-fn system(bits: u32) -> Decoded
+fn system(bits: u32) -> Option<Inst>
     ensures { result ≡ decode_system bits }
 {
     match bits {
-        0x0000_0073 => Decoded::Legal(Inst::Ecall),
-        0x0010_0073 => Decoded::Legal(Inst::Ebreak),
-        _ => Decoded::Illegal,
+        0x0000_0073 => Some(Inst::Ecall),
+        0x0010_0073 => Some(Inst::Ebreak),
+        _ => None,
     }
 }
 
 // What the bits mean. Bits of a short instruction are illegal here: no opcode of theirs is listed.
-pub fn decode(bits: u32) -> Decoded
+#[tactic(auto, unfolding(isa::specs::Decoding::decoded))]
+pub fn decode(bits: u32) -> Option<Inst>
     ensures { result ≡ decoded bits }
 {
     let rd = Reg::field5(bits >> 7);
@@ -262,9 +227,9 @@ pub fn decode(bits: u32) -> Decoded
     let rs2 = Reg::field5(bits >> 20);
     let funct7 = (bits >> 25) & 0x7f;
     match bits & 0x7f {
-        LUI => Decoded::Legal(Inst::Lui(rd, upper)),
-        AUIPC => Decoded::Legal(Inst::Auipc(rd, upper)),
-        JAL => Decoded::Legal(Inst::Jal(rd, imm_j(bits))),
+        LUI => Some(Inst::Lui(rd, upper)),
+        AUIPC => Some(Inst::Auipc(rd, upper)),
+        JAL => Some(Inst::Jal(rd, imm_j(bits))),
         JALR => if_zero(funct3, Inst::Jalr(rd, rs1, imm_i(bits))),
         BRANCH => branch(funct3, rs1, rs2, imm_b(bits)),
         LOAD => load(funct3, rd, rs1, imm_i(bits)),
@@ -274,6 +239,6 @@ pub fn decode(bits: u32) -> Decoded
         // fence.i, which has funct3 001, is illegal here
         MISC_MEM => if_zero(funct3, Inst::Fence(rd, rs1, (bits >> 20) & 0xfff)),
         SYSTEM => system(bits),
-        _ => Decoded::Illegal,
+        _ => None,
     }
 }

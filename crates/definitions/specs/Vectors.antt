@@ -4,18 +4,14 @@
 -- Halfwords: the first of each mnemonic with the same low two and high four bits, and the 7th of the list and every 43rd after it.
 -- Halfwords that are not in the list, so no instruction: the first three with the same low two and high four bits, and the 7th and every 101st after it.
 -- The outside words have no ecall and no ebreak; a halfword has ebreak.
-use Rattle.std.specs.Prelude.{◌≡◌, List, [], ◌∷◌, map, ℕ}
-use Rattle.std.proofs.Math.Option.{Option, none, some}
+use Rattle.std.specs.Prelude.{◌≡◌, List, [], ◌∷◌, map, ℕ, None, Option, Some}
 use Prim.Native.String.{String}
 use Rattle.ascii.specs.Ascii.{bytes}
-use Rattle.isa.specs.declared.Encoded.{Encoded}
-use Rattle.isa.specs.declared.Encoded.TheVariants.{Bits}
-use Rattle.isa.specs.declared.Decoded.{Decoded}
-use Rattle.isa.specs.declared.Decoded.TheVariants.{Legal, Illegal}
 use Rattle.isa.specs.Decoding.{decoded}
 use Rattle.isa.specs.Encoding.{encoded}
 use Rattle.isa.specs.Rvc.{expanded}
 use Rattle.text.specs.Text.{text_of}
+use Rattle.isa.specs.declared.Inst.{Inst}
 
 -- 32 bits and their text
 abbrev pub Word : Type 0
@@ -452,13 +448,13 @@ illegal_halves =
 -- ---- the claim
 
 -- what the definitions say of some bits: the word and the text of the instruction that they mean
-abbrev pub word_and_text_of : Decoded → Option (Encoded × List ℕ)
-word_and_text_of (Legal i) = some (encoded i, text_of i)
-word_and_text_of Illegal = none
+abbrev pub word_and_text_of : Option Inst → Option (Option ℕ × List ℕ)
+word_and_text_of (Some i) = Some (encoded i, text_of i)
+word_and_text_of None = None
 
 -- what a row says of them
-abbrev pub word_and_text : ℕ → String → Option (Encoded × List ℕ)
-word_and_text w text = some (Bits w, bytes text)
+abbrev pub word_and_text : ℕ → String → Option (Option ℕ × List ℕ)
+word_and_text w text = Some (Some w, bytes text)
 
 -- row by row, both say the same
 abbrev pub Words : List Word → Type 0
@@ -477,8 +473,8 @@ Each Says (t ∷ ts) = Says t × Each Says ts
 
 pub record VectorsHold : Type 0 where
   pub words : Each Words (uppers ∷ jumps ∷ branches ∷ loads ∷ stores ∷ immediates ∷ registers ∷ fences ∷ mul_divs ∷ [])
-  pub no_words : map decoded illegal_words ≡ map (λ w. Illegal) illegal_words
+  pub no_words : map decoded illegal_words ≡ map (λ w. None) illegal_words
   pub quadrant0 : Each Halves (c_addi4spn ∷ c_lw ∷ c_sw ∷ [])
   pub quadrant1 : Each Halves (c_addi ∷ c_jal ∷ c_li ∷ c_upper ∷ c_alu ∷ c_j ∷ c_beqz ∷ c_bnez ∷ [])
   pub quadrant2 : Each Halves (c_slli ∷ c_lwsp ∷ c_register ∷ c_swsp ∷ [])
-  pub no_halves : map expanded illegal_halves ≡ map (λ h. Illegal) illegal_halves
+  pub no_halves : map expanded illegal_halves ≡ map (λ h. None) illegal_halves

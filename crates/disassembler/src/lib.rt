@@ -2,62 +2,60 @@
 // answer is the text's length; bytes of the room after it stay.
 #![tactic(auto)]
 
-ghost use Rattle.std.specs.Prelude.{◌≡◌};
+ghost use Rattle.std.specs.Prelude.{◌≡◌, ◌++◌, ◌≤◌, IfOk, length};
 ghost use Rattle.answers.specs.Outcomes.{outcome};
-ghost use Rattle.disassembler.specs.Entries.{word_entry, half_entry, inst_entry};
+ghost use Rattle.text.specs.Text.{text_of};
+ghost use Rattle.disassembler.specs.Entries.{found_entry, word_entry, half_entry, inst_entry};
 
 use answers::Refusal;
+use ascii::Cursor;
 use decoder::decode;
 use expander::expand;
-use isa::{Decoded, Inst};
+use isa::Inst;
 use ranges::in_range;
-use text::{put_short_text, put_text};
-
-// What the three entries answer: the text's length, or a refusal.
-#[derive(Clone, Copy)]
-pub enum Written {
-    Length(usize),
-    Refused(Refusal),
-}
+use text::{SHORT, put_text};
 
 // No text is longer, with `c:` in front or without.
-const ROOM: usize = 24;
+pub const ROOM: usize = 24;
 
-// The text of 32 bits. Refuses with 6 and 7.
-pub fn text_of_word(bits: u32, room: &mut [u8]) -> Written
-    ensures { outcome result room.new ≡ word_entry bits room.old }
+// The text of what was found, with a prefix; a small room is refused first.
+fn write_text(
+    found: Result<Inst, Refusal>,
+    prefix: &[u8],
+    room: &mut [u8],
+) -> Result<usize, Refusal>
+    requires { IfOk found (λ i. length (prefix.now ++ text_of i) ≤ 21) }
+    ensures { outcome result room.new ≡ found_entry found prefix.now room.old }
 {
     if room.len() < ROOM {
-        return Written::Refused(Refusal::Room);
+        return Err(Refusal::Room);
     }
-    let Decoded::Legal(i) = decode(bits) else {
-        return Written::Refused(Refusal::NoInstruction);
-    };
-    Written::Length(put_text(room, 0, i))
+    let i = found?;
+    let mut out = Cursor { room, at: 0 };
+    out.put_all(prefix);
+    put_text(&mut out, i);
+    Ok(out.at)
+}
+
+// The text of 32 bits. Refuses with 6 and 7.
+pub fn text_of_word(bits: u32, room: &mut [u8]) -> Result<usize, Refusal>
+    ensures { outcome result room.new ≡ word_entry bits room.old }
+{
+    write_text(decode(bits).ok_or(Refusal::NoInstruction), b"", room)
 }
 
 // The text of 16 bits. Refuses with 6 and 7.
-pub fn text_of_half(bits: u16, room: &mut [u8]) -> Written
+#[tactic(auto, unfolding(text::specs::Text::short_text_of))]
+pub fn text_of_half(bits: u16, room: &mut [u8]) -> Result<usize, Refusal>
     ensures { outcome result room.new ≡ half_entry bits room.old }
 {
-    if room.len() < ROOM {
-        return Written::Refused(Refusal::Room);
-    }
-    let Decoded::Legal(i) = expand(bits) else {
-        return Written::Refused(Refusal::NoInstruction);
-    };
-    Written::Length(put_short_text(room, 0, i))
+    write_text(expand(bits).ok_or(Refusal::NoInstruction), SHORT, room)
 }
 
 // The text of an instruction. Refuses with 6 and 8.
-pub fn text_of(i: Inst, room: &mut [u8]) -> Written
+#[tactic(auto, unfolding(answers::specs::Outcomes::decided))]
+pub fn text_of(i: Inst, room: &mut [u8]) -> Result<usize, Refusal>
     ensures { outcome result room.new ≡ inst_entry i room.old }
 {
-    if room.len() < ROOM {
-        return Written::Refused(Refusal::Room);
-    }
-    if !in_range(i) {
-        return Written::Refused(Refusal::Field);
-    }
-    Written::Length(put_text(room, 0, i))
+    write_text(in_range(i).then_some(i).ok_or(Refusal::Field), b"", room)
 }

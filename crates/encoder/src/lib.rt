@@ -5,10 +5,11 @@ ghost use Rattle.std.specs.Prelude.{◌≡◌};
 ghost use Rattle.isa.specs.Encoding.{word_r, word_i, word_s, word_b, word_u, word_j, word_of, encoded};
 ghost use Rattle.isa.specs.Encoding.{cond_code, load_code, store_code, imm_code, shift_code, shift_code7, arith_code, arith_code7, mul_div_code};
 
-use isa::{ArithOp, Cond, Encoded, ImmOp, Inst, LoadOp, MulDivOp, Reg, ShiftOp, StoreOp};
+use isa::{ArithOp, Cond, ImmOp, Inst, LoadOp, MulDivOp, Reg, ShiftOp, StoreOp};
 use ranges::in_range;
 
-// ---- the codes of the operations: funct3, and funct7 where they have one
+// ---- the codes of the operations: funct3, and funct7 where they have one. A table of the manual for each
+// kind; a trait over the kinds would be used by no function that is generic in them.
 
 fn cond_code(o: Cond) -> u32
     ensures { result ≡ cond_code o }
@@ -63,8 +64,7 @@ fn shift_code(o: ShiftOp) -> u32
 {
     match o {
         ShiftOp::Slli => 0b001,
-        ShiftOp::Srli => 0b101,
-        ShiftOp::Srai => 0b101,
+        ShiftOp::Srli | ShiftOp::Srai => 0b101,
     }
 }
 
@@ -72,8 +72,7 @@ fn shift_code7(o: ShiftOp) -> u32
     ensures { result ≡ shift_code7 o }
 {
     match o {
-        ShiftOp::Slli => 0b0000000,
-        ShiftOp::Srli => 0b0000000,
+        ShiftOp::Slli | ShiftOp::Srli => 0b0000000,
         ShiftOp::Srai => 0b0100000,
     }
 }
@@ -82,14 +81,12 @@ fn arith_code(o: ArithOp) -> u32
     ensures { result ≡ arith_code o }
 {
     match o {
-        ArithOp::Add => 0b000,
-        ArithOp::Sub => 0b000,
+        ArithOp::Add | ArithOp::Sub => 0b000,
         ArithOp::Sll => 0b001,
         ArithOp::Slt => 0b010,
         ArithOp::Sltu => 0b011,
         ArithOp::Xor => 0b100,
-        ArithOp::Srl => 0b101,
-        ArithOp::Sra => 0b101,
+        ArithOp::Srl | ArithOp::Sra => 0b101,
         ArithOp::Or => 0b110,
         ArithOp::And => 0b111,
     }
@@ -99,16 +96,8 @@ fn arith_code7(o: ArithOp) -> u32
     ensures { result ≡ arith_code7 o }
 {
     match o {
-        ArithOp::Add => 0b0000000,
-        ArithOp::Sub => 0b0100000,
-        ArithOp::Sll => 0b0000000,
-        ArithOp::Slt => 0b0000000,
-        ArithOp::Sltu => 0b0000000,
-        ArithOp::Xor => 0b0000000,
-        ArithOp::Srl => 0b0000000,
-        ArithOp::Sra => 0b0100000,
-        ArithOp::Or => 0b0000000,
-        ArithOp::And => 0b0000000,
+        ArithOp::Sub | ArithOp::Sra => 0b0100000,
+        _ => 0b0000000,
     }
 }
 
@@ -206,6 +195,7 @@ fn word_j(imm: u32, rd: Reg, opcode: u32) -> u32
 // ---- the listings
 
 // The word of an instruction that is in range; of another one it holds what fits of each number.
+#[tactic(auto, unfolding(isa::specs::Encoding::word_of))]
 fn word_of(i: Inst) -> u32
     ensures { result ≡ word_of i }
 {
@@ -236,12 +226,8 @@ fn word_of(i: Inst) -> u32
 }
 
 // The word of an instruction that has one.
-pub fn encode(i: Inst) -> Encoded
+pub fn encode(i: Inst) -> Option<u32>
     ensures { result ≡ encoded i }
 {
-    if in_range(i) {
-        Encoded::Bits(word_of(i))
-    } else {
-        Encoded::OutOfRange
-    }
+    in_range(i).then(|| word_of(i))
 }

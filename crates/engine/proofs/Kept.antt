@@ -9,7 +9,6 @@ use lib.Dec.{leb}
 use lib.ListN.{length}
 use borrow.Author.Tests.{eqb-true, ltb-true}
 use Rattle.answers.specs.declared.Cause.{Cause}
-use Rattle.answers.specs.declared.Check.TheVariants.{Passed}
 use Rattle.word.proofs.Bools.{either, second}
 use Rattle.word.proofs.Scatter.{low_lt}
 use Rattle.word.proofs.Signs.{signed_lt}
@@ -34,20 +33,21 @@ use Rattle.execute.proofs.Acts.{Comes, sets, loads, into_memory, into_row, zero_
 use Rattle.fetch.proofs.Laws.{FailsBy, fetch_fails, fetched_real}
 use Rattle.engine.specs.Steps.{World, Sized, checked, asked, applied, after, stepped, ran}
 use Rattle.engine.proofs.Walk.{by_asked, walk}
+use Rattle.answers.specs.Checks.{passed}
 
 -- ---- what is kept
 
 -- what holds at every accepted start, and after every step from one
 abbrev pub Runnable : World → Type 0
-Runnable w = SoundState w.st × SoundBoard w.board × (disjoint w.masks ≡ true)
+Runnable w = SoundState w.st × SoundBoard w.board × (disjoint w.grant ≡ true)
 
 -- it is what the entries ask, with what the types say
-pub runnable_passes : (w : World) → Runnable w → checked w ≡ Passed
-runnable_passes w g = start_passes w.board w.masks (state_checked w.st) g.1.1 g.2 ∙ form_passes true w.st refl g.0.1
+pub runnable_passes : (w : World) → Runnable w → checked w ≡ passed
+runnable_passes w g = start_passes w.board w.grant (state_checked w.st) g.1.1 g.2 ∙ form_passes true w.st refl g.0.1
 
-pub passes_runnable : (w : World) → Sized w → checked w ≡ Passed → Runnable w
+pub passes_runnable : (w : World) → Sized w → checked w ≡ passed → Runnable w
 passes_runnable w z e =
-    let b = start_accepted w.board w.masks (state_checked w.st) e in
+    let b = start_accepted w.board w.grant (state_checked w.st) e in
     ((z.state_fits, (form_passed true w.st b.2).1), (z.board_fits, b.0), b.1)
 
 -- ---- what a step asks for
@@ -123,7 +123,7 @@ module _ (w : World) (g : Runnable w) where
   stop_fits (Stores o v a pc) why (inr (inr (inr e))) h = rw e (h.0, refl)
   stop_fits (Ends c) why by h = subst SoundCause (sym by) h
 
-  runnable_after : {a : Act} {d : Done} → Comes w.masks.own w.board a d → ActFits w.st.count a → Runnable (after d w)
+  runnable_after : {a : Act} {d : Done} → Comes w.grant.own w.board a d → ActFits w.st.count a → Runnable (after d w)
   unfolding applied
   runnable_after (sets rd v pc) h = (advanced_sound rd v pc w.st h.0 h.1.0 h.1.1 g.0, g.1, g.2)
   runnable_after (loads o rd a pc v fits) h = (advanced_sound rd v pc w.st (fits g.1.0) h.1.0 h.1.1 g.0, g.1, g.2)

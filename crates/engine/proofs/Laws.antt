@@ -44,10 +44,10 @@ ran_stopped (suc n) w h = rw (step_stopped w h) (ran_stopped n w h)
 
 -- ---- the masks stay
 
-masks-stepped : (w : World) → (stepped w).masks ≡ w.masks
-masks-stepped w = walk w (λ c v. v.masks ≡ w.masks) (λ e. refl) (λ e d c. refl)
+masks-stepped : (w : World) → (stepped w).grant ≡ w.grant
+masks-stepped w = walk w (λ c v. v.grant ≡ w.grant) (λ e. refl) (λ e d c. refl)
 
-pub masks-ran : (n : ℕ) (w : World) → (ran n w).masks ≡ w.masks
+pub masks-ran : (n : ℕ) (w : World) → (ran n w).grant ≡ w.grant
 unfolding ran
 masks-ran zero w = refl
 masks-ran (suc n) w = masks-ran n (stepped w) ∙ masks-stepped w
@@ -152,7 +152,7 @@ ran_turn (suc n) w h e = let k : suc n - 1 ≡ n = omega arith in rw (k, e)
 
 -- a step comes to what its instruction asks for, performed and applied
 pub step_does : {a : Act} {e : Effect} {b : Board} {s : State} (w : World) → w.st.stop ≡ 0 → w.st.count < 2 ^ 64 - 1
-    → a ≡ act_at w.st.pc w.st.x w.board.mem → outcome e b ≡ performed w.masks.own a w.board → s ≡ applied e w.st → onward w s b ≡ stepped w
+    → a ≡ act_at w.st.pc w.st.x w.board.mem → outcome e b ≡ performed w.grant.own a w.board → s ≡ applied e w.st → onward w s b ≡ stepped w
 unfolding stepped asked
 step_does w h k t p e = rw (eq-eqb _ _ h, lt-ltb _ _ k, ← t, ← p, e)
 

@@ -21,8 +21,7 @@ use Rattle.octets.proofs.Bytes.{load_lt}
 use Rattle.place.specs.declared.Place.{Place}
 use Rattle.place.specs.declared.Place.TheVariants.{Memory, Fuse, Misaligned, Outside}
 use Rattle.place.proofs.Placed.{placed_memory, placed_fuse}
-use Rattle.fuses.specs.Row.{value_at, mark_at, burnt, word_stored, owns}
-use Rattle.fuses.specs.declared.Stored.{Stored}
+use Rattle.fuses.specs.Row.{Stored, value_at, mark_at, burnt, word_stored, owns}
 use Rattle.fuses.proofs.Burning.{WordStores, burns, no_pulse, refused, stores_as}
 use Rattle.boards.specs.Boards.{Board, board, BoardFits}
 use Rattle.access.specs.declared.Effect.{Effect}

@@ -12,10 +12,12 @@ ghost use Rattle.execute.specs.Execution.{upper_field, evened, act_of, performed
 use access::{Effect, load, store};
 use alu::{add, arith, arith_imm, is_taken, mul_div, shift};
 use answers::{Cause, Stop};
+use fuses::RowBytes;
 use isa::{Cond, Inst, LoadOp, Reg, StoreOp};
 use state::read;
 
-// What an instruction asks for. Each but the last ends with the address of the next instruction.
+// What an instruction asks for. Each but the last ends with the address of the next instruction. `Ends`
+// is one of four and no error of the others.
 #[derive(Clone, Copy)]
 pub enum Act {
     // a register gets a value
@@ -53,7 +55,7 @@ fn branch_target(test: Cond, a: u32, b: u32, imm: u32, pc: u32, next: u32) -> u3
 fn ends(stop: Stop, address: u32) -> Act
     ensures { result ≡ Ends (cause stop address) }
 {
-    Act::Ends(Cause { stop, address })
+    Act::Ends(Cause::new(stop, address))
 }
 
 // What the instruction i at pc asks for, over the registers x; next is pc plus its own length.
@@ -89,8 +91,7 @@ pub fn decide(i: Inst, next: u32, pc: u32, x: &[u32; 31]) -> Act
 }
 
 // What comes of it. Of the row's words it may load and store to its own.
-pub fn perform(own: u64, act: Act, mem: &mut [u8], row: &mut [u8]) -> Effect
-    requires { length row.old ≡ 512 }
+pub fn perform(own: u64, act: Act, mem: &mut [u8], row: &mut RowBytes) -> Effect
     ensures { outcome result (board mem.new row.new) ≡ performed own act (board mem.old row.old) }
 {
     match act {

@@ -52,7 +52,7 @@ ghost use Rattle.isa.specs.Rvc.{
   expanded,
 };
 
-use isa::{ArithOp, Cond, Decoded, ImmOp, Inst, LoadOp, Reg, ShiftOp, StoreOp};
+use isa::{ArithOp, Cond, ImmOp, Inst, LoadOp, Reg, ShiftOp, StoreOp};
 
 // ---- fields
 
@@ -193,89 +193,81 @@ fn imm_cb(h: u32) -> u32
 // ---- what may not be
 
 // Legal unless the number is 0.
-fn nonzero(number: u32, i: Inst) -> Decoded
+fn nonzero(number: u32, i: Inst) -> Option<Inst>
     ensures { result ≡ nonzero number i }
 {
-    if number == 0 {
-        Decoded::Illegal
-    } else {
-        Decoded::Legal(i)
-    }
+    (number != 0).then_some(i)
 }
 
 // Legal only where bit 12 is 0.
-fn clear12(h: u32, i: Inst) -> Decoded
+fn clear12(h: u32, i: Inst) -> Option<Inst>
     ensures { result ≡ clear12 h i }
 {
-    if bit12(h) == 0 {
-        Decoded::Legal(i)
-    } else {
-        Decoded::Illegal
-    }
+    (bit12(h) == 0).then_some(i)
 }
 
 // ---- quadrant 0, by the bits 15 to 13
 
-fn c_addi4spn(h: u32) -> Decoded
+fn c_addi4spn(h: u32) -> Option<Inst>
     ensures { result ≡ c_addi4spn h }
 {
     let imm = imm4spn(h);
     nonzero(imm, Inst::Imm(ImmOp::Addi, short_4_2(h), Reg::STACK, imm))
 }
 
-fn c_lw(h: u32) -> Decoded
+fn c_lw(h: u32) -> Option<Inst>
     ensures { result ≡ c_lw h }
 {
-    Decoded::Legal(Inst::Load(LoadOp::Lw, short_4_2(h), short_9_7(h), imm_lw(h)))
+    Some(Inst::Load(LoadOp::Lw, short_4_2(h), short_9_7(h), imm_lw(h)))
 }
 
-fn c_sw(h: u32) -> Decoded
+fn c_sw(h: u32) -> Option<Inst>
     ensures { result ≡ c_sw h }
 {
-    Decoded::Legal(Inst::Store(StoreOp::Sw, short_9_7(h), short_4_2(h), imm_lw(h)))
+    Some(Inst::Store(StoreOp::Sw, short_9_7(h), short_4_2(h), imm_lw(h)))
 }
 
-fn quadrant0(h: u32) -> Decoded
+fn quadrant0(h: u32) -> Option<Inst>
     ensures { result ≡ find illegal quadrant0 (bits h 15 13) (λ m. m) h }
 {
     match (h >> 13) & 7 {
         0b000 => c_addi4spn(h),
         0b010 => c_lw(h),
         0b110 => c_sw(h),
-        _ => Decoded::Illegal,
+        _ => None,
     }
 }
 
 // ---- quadrant 1
 
 // C.NOP too, where rd is x0.
-fn c_addi(h: u32) -> Decoded
+fn c_addi(h: u32) -> Option<Inst>
     ensures { result ≡ c_addi h }
 {
     let rd = reg_11_7(h);
-    Decoded::Legal(Inst::Imm(ImmOp::Addi, rd, rd, imm6(h)))
+    Some(Inst::Imm(ImmOp::Addi, rd, rd, imm6(h)))
 }
 
-fn c_jal(h: u32) -> Decoded
+fn c_jal(h: u32) -> Option<Inst>
     ensures { result ≡ c_jal h }
 {
-    Decoded::Legal(Inst::Jal(Reg::LINK, imm_cj(h)))
+    Some(Inst::Jal(Reg::LINK, imm_cj(h)))
 }
 
-fn c_li(h: u32) -> Decoded
+fn c_li(h: u32) -> Option<Inst>
     ensures { result ≡ c_li h }
 {
-    Decoded::Legal(Inst::Imm(ImmOp::Addi, reg_11_7(h), Reg::ZERO, imm6(h)))
+    Some(Inst::Imm(ImmOp::Addi, reg_11_7(h), Reg::ZERO, imm6(h)))
 }
 
-fn c_addi16sp(h: u32) -> Decoded
+fn c_addi16sp(h: u32) -> Option<Inst>
     ensures { result ≡ c_addi16sp h }
 {
     let imm = imm16sp(h);
     nonzero(imm, Inst::Imm(ImmOp::Addi, Reg::STACK, Reg::STACK, imm))
 }
 
-fn c_lui(h: u32) -> Decoded
+fn c_lui(h: u32) -> Option<Inst>
     ensures { result ≡ c_lui h }
 {
     let field = field_lui(h);
@@ -283,7 +275,7 @@ fn c_lui(h: u32) -> Decoded
 }
 
 // C.ADDI16SP where rd is the stack pointer, x2, else C.LUI.
-fn c_upper(h: u32) -> Decoded
+fn c_upper(h: u32) -> Option<Inst>
     ensures { result ≡ c_upper h }
 {
     if rd_number(h) == 2 {
@@ -294,7 +286,7 @@ fn c_upper(h: u32) -> Decoded
 }
 
 // C.SRLI and C.SRAI.
-fn c_shift(o: ShiftOp, h: u32) -> Decoded
+fn c_shift(o: ShiftOp, h: u32) -> Option<Inst>
     ensures { result ≡ c_shift o h }
 {
     let rd = short_9_7(h);
@@ -302,15 +294,15 @@ fn c_shift(o: ShiftOp, h: u32) -> Decoded
     clear12(h, Inst::Shift(o, rd, rd, amount))
 }
 
-fn c_andi(h: u32) -> Decoded
+fn c_andi(h: u32) -> Option<Inst>
     ensures { result ≡ c_andi h }
 {
     let rd = short_9_7(h);
-    Decoded::Legal(Inst::Imm(ImmOp::Andi, rd, rd, imm6(h)))
+    Some(Inst::Imm(ImmOp::Andi, rd, rd, imm6(h)))
 }
 
 // C.SUB, C.XOR, C.OR and C.AND.
-fn c_arith(o: ArithOp, h: u32) -> Decoded
+fn c_arith(o: ArithOp, h: u32) -> Option<Inst>
     ensures { result ≡ clear12 h (Arith o (short9_7 h) (short9_7 h) (short4_2 h)) }
 {
     let rd = short_9_7(h);
@@ -318,7 +310,7 @@ fn c_arith(o: ArithOp, h: u32) -> Decoded
 }
 
 // The four above, by the bits 6 to 5.
-fn c_pair(h: u32) -> Decoded
+fn c_pair(h: u32) -> Option<Inst>
     ensures { result ≡ c_pair h }
 {
     match (h >> 5) & 3 {
@@ -326,12 +318,12 @@ fn c_pair(h: u32) -> Decoded
         0b01 => c_arith(ArithOp::Xor, h),
         0b10 => c_arith(ArithOp::Or, h),
         0b11 => c_arith(ArithOp::And, h),
-        _ => Decoded::Illegal,
+        _ => unreachable!(),
     }
 }
 
 // MISC-ALU, by the bits 11 to 10.
-fn c_alu(h: u32) -> Decoded
+fn c_alu(h: u32) -> Option<Inst>
     ensures { result ≡ c_alu h }
 {
     match (h >> 10) & 3 {
@@ -339,24 +331,24 @@ fn c_alu(h: u32) -> Decoded
         0b01 => c_shift(ShiftOp::Srai, h),
         0b10 => c_andi(h),
         0b11 => c_pair(h),
-        _ => Decoded::Illegal,
+        _ => unreachable!(),
     }
 }
 
-fn c_j(h: u32) -> Decoded
+fn c_j(h: u32) -> Option<Inst>
     ensures { result ≡ c_j h }
 {
-    Decoded::Legal(Inst::Jal(Reg::ZERO, imm_cj(h)))
+    Some(Inst::Jal(Reg::ZERO, imm_cj(h)))
 }
 
 // C.BEQZ and C.BNEZ.
-fn c_branch(o: Cond, h: u32) -> Decoded
+fn c_branch(o: Cond, h: u32) -> Option<Inst>
     ensures { result ≡ c_branch o h }
 {
-    Decoded::Legal(Inst::Branch(o, short_9_7(h), Reg::ZERO, imm_cb(h)))
+    Some(Inst::Branch(o, short_9_7(h), Reg::ZERO, imm_cb(h)))
 }
 
-fn quadrant1(h: u32) -> Decoded
+fn quadrant1(h: u32) -> Option<Inst>
     ensures { result ≡ find illegal quadrant1 (bits h 15 13) (λ m. m) h }
 {
     match (h >> 13) & 7 {
@@ -368,13 +360,13 @@ fn quadrant1(h: u32) -> Decoded
         0b101 => c_j(h),
         0b110 => c_branch(Cond::Beq, h),
         0b111 => c_branch(Cond::Bne, h),
-        _ => Decoded::Illegal,
+        _ => unreachable!(),
     }
 }
 
 // ---- quadrant 2
 
-fn c_slli(h: u32) -> Decoded
+fn c_slli(h: u32) -> Option<Inst>
     ensures { result ≡ c_slli h }
 {
     let rd = reg_11_7(h);
@@ -382,7 +374,7 @@ fn c_slli(h: u32) -> Decoded
     clear12(h, Inst::Shift(ShiftOp::Slli, rd, rd, amount))
 }
 
-fn c_lwsp(h: u32) -> Decoded
+fn c_lwsp(h: u32) -> Option<Inst>
     ensures { result ≡ c_lwsp h }
 {
     nonzero(
@@ -391,55 +383,55 @@ fn c_lwsp(h: u32) -> Decoded
     )
 }
 
-fn c_jr(h: u32) -> Decoded
+fn c_jr(h: u32) -> Option<Inst>
     ensures { result ≡ c_jr h }
 {
     nonzero(rd_number(h), Inst::Jalr(Reg::ZERO, reg_11_7(h), 0))
 }
 
-fn c_mv(h: u32) -> Decoded
+fn c_mv(h: u32) -> Option<Inst>
     ensures { result ≡ c_mv h }
 {
-    Decoded::Legal(Inst::Arith(ArithOp::Add, reg_11_7(h), Reg::ZERO, reg_6_2(h)))
+    Some(Inst::Arith(ArithOp::Add, reg_11_7(h), Reg::ZERO, reg_6_2(h)))
 }
 
 // C.EBREAK where rs1 is 0.
-fn c_jalr(h: u32) -> Decoded
+fn c_jalr(h: u32) -> Option<Inst>
     ensures { result ≡ c_jalr h }
 {
     if rd_number(h) == 0 {
-        Decoded::Legal(Inst::Ebreak)
+        Some(Inst::Ebreak)
     } else {
-        Decoded::Legal(Inst::Jalr(Reg::LINK, reg_11_7(h), 0))
+        Some(Inst::Jalr(Reg::LINK, reg_11_7(h), 0))
     }
 }
 
-fn c_add(h: u32) -> Decoded
+fn c_add(h: u32) -> Option<Inst>
     ensures { result ≡ c_add h }
 {
     let rd = reg_11_7(h);
-    Decoded::Legal(Inst::Arith(ArithOp::Add, rd, rd, reg_6_2(h)))
+    Some(Inst::Arith(ArithOp::Add, rd, rd, reg_6_2(h)))
 }
 
 // The five above, by bit 12 and whether rs2 is 0.
-fn c_register(h: u32) -> Decoded
+fn c_register(h: u32) -> Option<Inst>
     ensures { result ≡ c_register h }
 {
-    let rs = rs_number(h);
-    if bit12(h) == 0 {
-        if rs == 0 { c_jr(h) } else { c_mv(h) }
-    } else {
-        if rs == 0 { c_jalr(h) } else { c_add(h) }
+    match (bit12(h), rs_number(h)) {
+        (0, 0) => c_jr(h),
+        (0, _) => c_mv(h),
+        (_, 0) => c_jalr(h),
+        _ => c_add(h),
     }
 }
 
-fn c_swsp(h: u32) -> Decoded
+fn c_swsp(h: u32) -> Option<Inst>
     ensures { result ≡ c_swsp h }
 {
-    Decoded::Legal(Inst::Store(StoreOp::Sw, Reg::STACK, reg_6_2(h), imm_swsp(h)))
+    Some(Inst::Store(StoreOp::Sw, Reg::STACK, reg_6_2(h), imm_swsp(h)))
 }
 
-fn quadrant2(h: u32) -> Decoded
+fn quadrant2(h: u32) -> Option<Inst>
     ensures { result ≡ find illegal quadrant2 (bits h 15 13) (λ m. m) h }
 {
     match (h >> 13) & 7 {
@@ -447,7 +439,7 @@ fn quadrant2(h: u32) -> Decoded
         0b010 => c_lwsp(h),
         0b100 => c_register(h),
         0b110 => c_swsp(h),
-        _ => Decoded::Illegal,
+        _ => None,
     }
 }
 
@@ -455,14 +447,15 @@ fn quadrant2(h: u32) -> Decoded
 
 // The instruction that 16 bits stand for, by the low two. Where those are 11, the bits are a part
 // of a 32-bit instruction, and as a short one they are illegal.
-pub fn expand(bits: u16) -> Decoded
+#[tactic(auto, unfolding(isa::specs::Rvc::expanded))]
+pub fn expand(bits: u16) -> Option<Inst>
     ensures { result ≡ expanded bits }
 {
-    let h = bits as u32;
+    let h = u32::from(bits);
     match h & 3 {
         0b00 => quadrant0(h),
         0b01 => quadrant1(h),
         0b10 => quadrant2(h),
-        _ => Decoded::Illegal,
+        _ => None,
     }
 }

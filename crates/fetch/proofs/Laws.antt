@@ -13,8 +13,6 @@ use Rattle.answers.specs.Stops.{cause}
 use Rattle.answers.specs.declared.Cause.{Cause}
 use Rattle.answers.specs.declared.Stop.TheVariants.{IllegalInstruction, FetchOutside}
 use Rattle.isa.specs.declared.Inst.{Inst}
-use Rattle.isa.specs.declared.Decoded.{Decoded}
-use Rattle.isa.specs.declared.Decoded.TheVariants.{Legal, Illegal}
 use Rattle.isa.specs.Decoding.{decoded}
 use Rattle.isa.specs.Encoding.{in_range}
 use Rattle.isa.specs.Rvc.{expanded}
@@ -22,12 +20,13 @@ use Rattle.roundtrip.proofs.Words.{decoded_in_range}
 use Rattle.shortest.proofs.Shortest.{expanded_in_range}
 use Rattle.octets.specs.Bytes.{load}
 use Rattle.octets.proofs.Bytes.{Bytes, loaded_lt}
-use Rattle.fetch.specs.declared.Fetched.{Fetched}
-use Rattle.fetch.specs.declared.Fetched.TheVariants.{Instruction, Fails}
 use Rattle.fetch.specs.Fetching.{illegal_at, outside_at, legal, fetched_with, fetched}
+use Rattle.std.specs.Prelude.{None, Option, Some}
+use Rattle.fetch.specs.Fetching.{Fetched}
+use Rattle.std.specs.Prelude.{Err, Ok}
 
 -- two bytes
-pub fetch_short : {h : ℕ} {d : Decoded} (pc : ℕ) (m : List ℕ) → pc + 2 ≤ length m → h ≡ load 2 pc m → (h % 32 ≡ 31 → ⊥) → (h % 4 ≡ 3 → ⊥)
+pub fetch_short : {h : ℕ} {d : Option Inst} (pc : ℕ) (m : List ℕ) → pc + 2 ≤ length m → h ≡ load 2 pc m → (h % 32 ≡ 31 → ⊥) → (h % 4 ≡ 3 → ⊥)
     → d ≡ expanded h → fetched pc m ≡ legal d pc 2
 unfolding fetched fetched_with
 fetch_short pc m w e a b d = rw (le-leb _ _ w, ← e, ne_eqb _ _ a, ne_eqb _ _ b, ← d)
@@ -46,12 +45,12 @@ FailsBy pc m why = (why ≡ cause IllegalInstruction pc) ⊎ (why ≡ cause Fetc
 
 module _ (pc : ℕ) (m : List ℕ) where
   abbrev Tells : Fetched → Type 0
-  Tells (Instruction i len) = Unit {0}
-  Tells (Fails why) = FailsBy pc m why
+  Tells (Ok (i, len)) = Unit {0}
+  Tells (Err why) = FailsBy pc m why
 
-  legal_tells : (d : Decoded) (len : ℕ) → Tells (legal d pc len)
-  legal_tells (Legal i) len = tt
-  legal_tells Illegal len = inl refl
+  legal_tells : (d : Option Inst) (len : ℕ) → Tells (legal d pc len)
+  legal_tells (Some i) len = tt
+  legal_tells None len = inl refl
 
   tells : Tells (fetched pc m)
   unfolding fetched fetched_with
@@ -66,7 +65,7 @@ module _ (pc : ℕ) (m : List ℕ) where
           (legal_tells (expanded (load 2 pc m)) 2))
       go false e = inr (rw e)
 
-  pub fetch_fails : {why : Cause} → fetched pc m ≡ Fails why → FailsBy pc m why
+  pub fetch_fails : {why : Cause} → fetched pc m ≡ Err why → FailsBy pc m why
   fetch_fails e = subst Tells e tells
 
 -- ---- an instruction fetched is in range, and its two or four bytes lie within memory
@@ -78,12 +77,12 @@ pub record Real (pc : ℕ) (m : List ℕ) (i : Inst) (len : ℕ) : Type 0 where
 
 module _ (pc : ℕ) (m : List ℕ) where
   abbrev Sound : Fetched → Type 0
-  Sound (Instruction i len) = Real pc m i len
-  Sound (Fails stop) = Unit {0}
+  Sound (Ok (i, len)) = Real pc m i len
+  Sound (Err stop) = Unit {0}
 
-  legal_sound : (d : Decoded) (len : ℕ) → ((i : Inst) → d ≡ Legal i → in_range i ≡ true) → (len ≡ 2) ⊎ (len ≡ 4) → pc + len ≤ length m → Sound (legal d pc len)
-  legal_sound (Legal i) len r s w = record { in_range_lem = r i refl; size = s; within = w }
-  legal_sound Illegal len r s w = tt
+  legal_sound : (d : Option Inst) (len : ℕ) → ((i : Inst) → d ≡ Some i → in_range i ≡ true) → (len ≡ 2) ⊎ (len ≡ 4) → pc + len ≤ length m → Sound (legal d pc len)
+  legal_sound (Some i) len r s w = record { in_range_lem = r i refl; size = s; within = w }
+  legal_sound None len r s w = tt
 
   module _ (bytes : Bytes m) where
     with_sound : pc + 2 ≤ length m → Sound (fetched_with (load 2 pc m) pc m)
@@ -106,5 +105,5 @@ module _ (pc : ℕ) (m : List ℕ) where
         two true e = either Sound (eqb (load 2 pc m % 32) 31) _ _ tt (with_sound (leb-true _ _ e))
         two false e = tt
 
-    pub fetched_real : {i : Inst} {len : ℕ} → fetched pc m ≡ Instruction i len → Real pc m i len
+    pub fetched_real : {i : Inst} {len : ℕ} → fetched pc m ≡ Ok (i, len) → Real pc m i len
     fetched_real e = subst Sound e sound

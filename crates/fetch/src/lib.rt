@@ -9,53 +9,33 @@ use alu::add;
 use answers::{Cause, Stop};
 use decoder::decode;
 use expander::expand;
-use isa::{Decoded, Inst};
-use octets::{load2, load4};
+use isa::Inst;
+use octets::load;
 
 // An instruction and its length in bytes, or why there is none.
-#[derive(Clone, Copy)]
-pub enum Fetched {
-    Instruction(Inst, u32),
-    Fails(Cause),
-}
-
-pub fn fetch(pc: u32, mem: &[u8]) -> Fetched
+pub fn fetch(pc: u32, mem: &[u8]) -> Result<(Inst, u32), Cause>
     ensures { result ≡ fetched pc mem.now }
 {
     let at = pc as usize;
+    let illegal = Cause::new(Stop::IllegalInstruction, pc);
     if at + 2 > mem.len() {
-        return Fetched::Fails(Cause {
-            stop: Stop::FetchOutside,
-            address: pc,
-        });
+        return Err(Cause::new(Stop::FetchOutside, pc));
     }
-    let half = load2(mem, at);
+    let half = load::<2>(mem, at) as u16;
     if half % 32 == 31 {
-        return Fetched::Fails(Cause {
-            stop: Stop::IllegalInstruction,
-            address: pc,
-        });
+        return Err(illegal);
     }
     if half % 4 != 3 {
-        let Decoded::Legal(i) = expand(half) else {
-            return Fetched::Fails(Cause {
-                stop: Stop::IllegalInstruction,
-                address: pc,
-            });
+        let Some(i) = expand(half) else {
+            return Err(illegal);
         };
-        return Fetched::Instruction(i, 2);
+        return Ok((i, 2));
     }
     if at + 4 > mem.len() {
-        return Fetched::Fails(Cause {
-            stop: Stop::FetchOutside,
-            address: add(pc, 2),
-        });
+        return Err(Cause::new(Stop::FetchOutside, add(pc, 2)));
     }
-    let Decoded::Legal(i) = decode(load4(mem, at)) else {
-        return Fetched::Fails(Cause {
-            stop: Stop::IllegalInstruction,
-            address: pc,
-        });
+    let Some(i) = decode(load::<4>(mem, at) as u32) else {
+        return Err(illegal);
     };
-    Fetched::Instruction(i, 4)
+    Ok((i, 4))
 }

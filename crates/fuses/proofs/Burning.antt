@@ -15,25 +15,23 @@ use Rattle.word.specs.Bits.{flag, low}
 use Rattle.word.specs.Bounds.{AllBelow}
 use Rattle.octets.specs.Bytes.{load, store}
 use Rattle.octets.proofs.Bytes.{length-store, load_store, load-store-other, store_below}
-use Rattle.fuses.specs.Row.{value_at, mark_at, rest_at, keeps_rules, all_keep, Row, burnt, word_stored, burnt_words}
-use Rattle.fuses.specs.declared.Stored.{Stored}
-use Rattle.fuses.specs.declared.Stored.TheVariants.{Done, AlreadyBurnt}
+use Rattle.fuses.specs.Row.{value_at, mark_at, rest_at, keeps_rules, all_keep, Row, burnt, Stored, done, already_burnt, word_stored, burnt_words}
 use Rattle.fuses.proofs.Rows.{length-burnt}
 
 -- ---- a store to a word
 
 -- the ways in which it can go, and what it leaves of the row
 pub data WordStores (k v : ℕ) (f : List ℕ) : Outcome Stored (List ℕ) → Type 0 where
-  burns : mark_at k f ≡ 0 → (low 32 v ≡ 0 → ⊥) → WordStores k v f (outcome Done (burnt k v f))
-  no_pulse : low 32 v ≡ 0 → WordStores k v f (outcome Done f)
-  refused : WordStores k v f (outcome AlreadyBurnt f)
+  burns : mark_at k f ≡ 0 → (low 32 v ≡ 0 → ⊥) → WordStores k v f (outcome done (burnt k v f))
+  no_pulse : low 32 v ≡ 0 → WordStores k v f (outcome done f)
+  refused : WordStores k v f (outcome already_burnt f)
 
 pub stores_as : (k v : ℕ) (f : List ℕ) → WordStores k v f (word_stored k v f)
 unfolding word_stored
 stores_as k v f = go (eqb (mark_at k f) 0) refl (eqb (low 32 v) 0) refl
   where
     go : (b : Bool) → eqb (mark_at k f) 0 ≡ b → (c : Bool) → eqb (low 32 v) 0 ≡ c
-        → WordStores k v f (cond b (outcome Done (cond c f (burnt k v f))) (outcome AlreadyBurnt f))
+        → WordStores k v f (cond b (outcome done (cond c f (burnt k v f))) (outcome already_burnt f))
     go true e true z = no_pulse (eqb-true _ _ z)
     go true e false z = burns (eqb-true _ _ e) (eqb-false _ _ z)
     go false e c z = refused

@@ -110,6 +110,3 @@ lowest_tells row = go (all_keep 64 row) refl
     go : (b : Bool) → all_keep 64 row ≡ b → b ≡ leb 64 (lowest_bad 64 row)
     go true e = rw (none-bad 64 row e)
     go false e = sym (lt-leb 64 (lowest_bad 64 row) (lowest_breaks 64 row e).within)
-
-pub lowest-all : (row : List ℕ) → all_keep 64 row ≡ true → lowest_bad 64 row ≡ 64
-lowest-all row e = none-bad 64 row e

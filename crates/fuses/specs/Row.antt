@@ -1,13 +1,11 @@
 -- The fuse row: 64 records of 8 bytes, no header. Bytes 0 to 3 hold the value, byte 4 the mark (0 blank, 1 burnt), bytes 5 to 7 zero.
-use Rattle.std.specs.Prelude.{ℕ, zero, suc, ◌+◌, ◌-◌, ◌*◌, ◌/◌, ◌%◌, ◌^◌, Bool, true, cond, not, ◌&&◌, ◌||◌, ◌≡◌, List, length, eqb}
+use Rattle.std.specs.Prelude.{ℕ, zero, suc, ◌+◌, ◌-◌, ◌*◌, ◌/◌, ◌%◌, ◌^◌, Bool, true, cond, not, ◌&&◌, ◌||◌, ◌≡◌, List, length, eqb, Result, Ok, Err}
 use Rattle.word.specs.Bits.{flag, low}
 use Rattle.octets.specs.Bytes.{load, store}
-use Rattle.answers.specs.Checks.{unless}
+use Rattle.answers.specs.Checks.{unless, Check}
 use Rattle.answers.specs.Outcomes.{Outcome, outcome}
-use Rattle.answers.specs.declared.Check.{Check}
 use Rattle.answers.specs.declared.Refusal.TheVariants.{RowLength, RowRecord}
-use Rattle.fuses.specs.declared.Stored.{Stored}
-use Rattle.fuses.specs.declared.Stored.TheVariants.{Done, AlreadyBurnt}
+use Rattle.fuses.specs.declared.AlreadyBurnt.{AlreadyBurnt}
 
 -- word k of the row
 abbrev pub value_at : ℕ → List ℕ → ℕ
@@ -45,9 +43,19 @@ row_checked row rest = unless (eqb (length row) 512) RowLength (unless (all_keep
 unfoldable pub burnt : ℕ → ℕ → List ℕ → List ℕ
 burnt k v row = store 1 (8 * k + 4) 1 (store 4 (8 * k) v row)
 
+-- what a store to a word comes to: it is done, or the word is already burnt
+abbrev pub Stored : Type 0
+Stored = Result (Unit {0}) AlreadyBurnt
+
+abbrev pub done : Stored
+done = Ok tt
+
+abbrev pub already_burnt : Stored
+already_burnt = Err (record {})
+
 -- a store of v to word k: a burnt word takes none, whatever v is; to a blank word 0 gives no pulse, and the row stays as it was
 unfoldable pub word_stored : ℕ → ℕ → List ℕ → Outcome Stored (List ℕ)
-word_stored k v row = cond (eqb (mark_at k row) 0) (outcome Done (cond (eqb (low 32 v) 0) row (burnt k v row))) (outcome AlreadyBurnt row)
+word_stored k v row = cond (eqb (mark_at k row) 0) (outcome done (cond (eqb (low 32 v) 0) row (burnt k v row))) (outcome already_burnt row)
 
 -- ---- masks of 64 bits
 

@@ -2,41 +2,31 @@
 // buffer at a time.
 #![tactic(auto)]
 
-ghost use Rattle.std.specs.Prelude.{◌≡◌, ◌≤◌, ◌<◌, IfOk, length};
-
 use listing::list;
 use reading::read_full;
 use std::io::{self, Read, Write};
 
-// Writes a page of the listing and answers the address of the next one.
-fn write_page<W: Write>(
-    output: &mut W,
-    image: &[u8],
-    from: usize,
-    page: &mut [u8],
-) -> io::Result<usize>
-    requires from_in_bounds { from < length image.now }
-    requires in_bounds { 38 ≤ length page.old }
-    ensures moves { IfOk result (λ next. from < next) }
-    ensures same_length { length page.new ≡ length page.old }
-{
-    let listed = list(image, from, page);
-    output.write_all(&page[..listed.length])?;
-    Ok(listed.next)
-}
+// One byte more than an image may have tells those that are too long.
+const READ: usize = 65537;
 
+// As many bytes as a page of the listing may have.
+const PAGE: usize = 65536;
+
+// Page after page. The address that a page answers is where the next begins, so nothing is counted here.
 fn write_listing<W: Write>(output: &mut W, image: &[u8]) -> io::Result<()> {
-    let mut page = [0u8; 65536];
+    let mut page = [0u8; PAGE];
     let mut next = 0;
     while next < image.len() {
-        next = write_page(output, image, next, &mut page)?;
+        let listed = list(image, next, &mut page);
+        output.write_all(&page[..listed.length])?;
+        next = listed.next;
     }
     Ok(())
 }
 
-// One byte more than an image may have tells those that are too long.
+// Reads an image, and writes its listing.
 pub fn list_from<R: Read, W: Write>(input: &mut R, output: &mut W) -> io::Result<()> {
-    let mut image = [0u8; 65537];
+    let mut image = [0u8; READ];
     let n = read_full(input, &mut image)?;
     write_listing(output, &image[..n])
 }

@@ -1,5 +1,5 @@
 -- An instruction from five numbers: the operation's, rd, rs1, rs2 and the immediate.
-use Rattle.std.specs.Prelude.{ℕ, Bool, cond, ◌&&◌, List, [], ◌∷◌, ◌++◌, ltb}
+use Rattle.std.specs.Prelude.{ℕ, Bool, cond, ◌&&◌, List, [], ◌∷◌, ◌++◌, ltb, None, Option, Some}
 use Rattle.word.specs.Tables.{find}
 use Rattle.isa.specs.declared.Inst.{Inst}
 use Rattle.isa.specs.declared.Inst.TheVariants.{Lui, Auipc, Jal, Jalr, Branch, Load, Store, Imm, Shift, Arith, Fence, Ecall, Ebreak, MulDiv}
@@ -11,8 +11,6 @@ use Rattle.isa.specs.declared.ShiftOp.TheVariants.{Slli, Srli, Srai}
 use Rattle.isa.specs.declared.ArithOp.TheVariants.{Add, Sub, Sll, Slt, Sltu, Xor, Srl, Sra, Or, And}
 use Rattle.isa.specs.declared.MulDivOp.TheVariants.{Mul, Mulh, Mulhsu, Mulhu, Div, Divu, Rem, Remu}
 use Rattle.isa.specs.declared.Parts.{Parts}
-use Rattle.isa.specs.declared.Built.{Built}
-use Rattle.isa.specs.declared.Built.TheVariants.{Instruction, OutOfRange}
 use Rattle.isa.specs.Registers.{reg}
 use Rattle.isa.specs.Operations.{parts_of, same_parts}
 
@@ -87,5 +85,5 @@ abbrev pub registers_ok : Parts → Bool
 registers_ok p = ltb p.rd 32 && (ltb p.rs1 32 && ltb p.rs2 32)
 
 -- the instruction that has these numbers: none where a register's is above 31, the operation's above 47, or an operand that the operation does not have is not 0
-abbrev pub inst_of : Parts → Built
-inst_of p = cond (registers_ok p && same_parts (parts_of (built p)) p) (Instruction (built p)) OutOfRange
+abbrev pub inst_of : Parts → Option Inst
+inst_of p = cond (registers_ok p && same_parts (parts_of (built p)) p) (Some (built p)) None

@@ -1,5 +1,5 @@
 -- The word of an instruction, by the manual's formats (sections 2.2 and 2.3) and listings (chapter 24), and which instructions have one.
-use Rattle.std.specs.Prelude.{ℕ, ◌+◌, ◌*◌, ◌%◌, ◌^◌, Bool, true, cond, ◌&&◌, eqb, ltb}
+use Rattle.std.specs.Prelude.{ℕ, ◌+◌, ◌*◌, ◌%◌, ◌^◌, Bool, true, cond, ◌&&◌, eqb, ltb, None, Option, Some}
 use Rattle.word.specs.Bits.{bits, low, sext}
 use Rattle.isa.specs.declared.Reg.{Reg}
 use Rattle.isa.specs.declared.Inst.{Inst}
@@ -18,8 +18,6 @@ use Rattle.isa.specs.declared.ArithOp.{ArithOp}
 use Rattle.isa.specs.declared.ArithOp.TheVariants.{Add, Sub, Sll, Slt, Sltu, Xor, Srl, Sra, Or, And}
 use Rattle.isa.specs.declared.MulDivOp.{MulDivOp}
 use Rattle.isa.specs.declared.MulDivOp.TheVariants.{Mul, Mulh, Mulhsu, Mulhu, Div, Divu, Rem, Remu}
-use Rattle.isa.specs.declared.Encoded.{Encoded}
-use Rattle.isa.specs.declared.Encoded.TheVariants.{Bits, OutOfRange}
 
 -- ---- what has a place in a word
 
@@ -171,5 +169,5 @@ word_of Ecall = 0x00000073
 word_of Ebreak = 0x00100073
 word_of (MulDiv o rd rs1 rs2) = word_r 0b0000001 rs2.number rs1.number (mul_div_code o) rd.number 0b0110011
 
-abbrev pub encoded : Inst → Encoded
-encoded i = cond (in_range i) (Bits (word_of i)) OutOfRange
+abbrev pub encoded : Inst → Option ℕ
+encoded i = cond (in_range i) (Some (word_of i)) None

@@ -1,5 +1,5 @@
 -- What 16 bits stand for, by the manual's tables 16.5 to 16.7 (RV32C, integer instructions). What has no row is illegal.
-use Rattle.std.specs.Prelude.{ℕ, ◌+◌, ◌*◌, ◌/◌, ◌^◌, cond, List, [], ◌∷◌, eqb}
+use Rattle.std.specs.Prelude.{ℕ, ◌+◌, ◌*◌, ◌/◌, ◌^◌, cond, List, [], ◌∷◌, eqb, None, Option, Some}
 use Rattle.word.specs.Bits.{bits, low, sext}
 use Rattle.word.specs.Tables.{find}
 use Rattle.isa.specs.declared.Reg.{Reg}
@@ -14,8 +14,6 @@ use Rattle.isa.specs.declared.ShiftOp.{ShiftOp}
 use Rattle.isa.specs.declared.ShiftOp.TheVariants.{Slli, Srli, Srai}
 use Rattle.isa.specs.declared.ArithOp.{ArithOp}
 use Rattle.isa.specs.declared.ArithOp.TheVariants.{Add, Sub, Xor, Or, And}
-use Rattle.isa.specs.declared.Decoded.{Decoded}
-use Rattle.isa.specs.declared.Decoded.TheVariants.{Legal, Illegal}
 use Rattle.isa.specs.Registers.{reg, x0, ra, sp}
 
 -- ---- fields
@@ -78,81 +76,81 @@ imm_cb h = sext 9 (bits h 12 12 * 2 ^ 8 + bits h 6 5 * 2 ^ 6 + bits h 2 2 * 2 ^ 
 -- ---- what may not be
 
 -- legal unless the immediate is 0
-abbrev pub nonzero : ℕ → Inst → Decoded
-nonzero imm i = cond (eqb imm 0) Illegal (Legal i)
+abbrev pub nonzero : ℕ → Inst → Option Inst
+nonzero imm i = cond (eqb imm 0) None (Some i)
 
 -- legal only where bit 12 is 0
-abbrev pub clear12 : ℕ → Inst → Decoded
-clear12 h i = cond (eqb (bits h 12 12) 0) (Legal i) Illegal
+abbrev pub clear12 : ℕ → Inst → Option Inst
+clear12 h i = cond (eqb (bits h 12 12) 0) (Some i) None
 
 -- ---- quadrant 0, by the bits 15 to 13
 
-abbrev pub c_addi4spn : ℕ → Decoded
+abbrev pub c_addi4spn : ℕ → Option Inst
 c_addi4spn h = nonzero (imm4spn h) (Imm Addi (short4_2 h) sp (imm4spn h))
 
-abbrev pub c_lw : ℕ → Decoded
-c_lw h = Legal (Load Lw (short4_2 h) (short9_7 h) (imm_lw h))
+abbrev pub c_lw : ℕ → Option Inst
+c_lw h = Some (Load Lw (short4_2 h) (short9_7 h) (imm_lw h))
 
-abbrev pub c_sw : ℕ → Decoded
-c_sw h = Legal (Store Sw (short9_7 h) (short4_2 h) (imm_lw h))
+abbrev pub c_sw : ℕ → Option Inst
+c_sw h = Some (Store Sw (short9_7 h) (short4_2 h) (imm_lw h))
 
-abbrev pub quadrant0 : List (ℕ × (ℕ → Decoded))
+abbrev pub quadrant0 : List (ℕ × (ℕ → Option Inst))
 quadrant0 = (0b000, c_addi4spn) ∷ (0b010, c_lw) ∷ (0b110, c_sw) ∷ []
 
 -- ---- quadrant 1
 
 -- C.NOP too
-abbrev pub c_addi : ℕ → Decoded
-c_addi h = Legal (Imm Addi (reg11_7 h) (reg11_7 h) (imm6 h))
+abbrev pub c_addi : ℕ → Option Inst
+c_addi h = Some (Imm Addi (reg11_7 h) (reg11_7 h) (imm6 h))
 
-abbrev pub c_jal : ℕ → Decoded
-c_jal h = Legal (Jal ra (imm_cj h))
+abbrev pub c_jal : ℕ → Option Inst
+c_jal h = Some (Jal ra (imm_cj h))
 
-abbrev pub c_li : ℕ → Decoded
-c_li h = Legal (Imm Addi (reg11_7 h) x0 (imm6 h))
+abbrev pub c_li : ℕ → Option Inst
+c_li h = Some (Imm Addi (reg11_7 h) x0 (imm6 h))
 
-abbrev pub c_addi16sp : ℕ → Decoded
+abbrev pub c_addi16sp : ℕ → Option Inst
 c_addi16sp h = nonzero (imm16sp h) (Imm Addi sp sp (imm16sp h))
 
-abbrev pub c_lui : ℕ → Decoded
+abbrev pub c_lui : ℕ → Option Inst
 c_lui h = nonzero (field_lui h) (Lui (reg11_7 h) (field_lui h))
 
 -- C.ADDI16SP where rd is 2, else C.LUI
-abbrev pub c_upper : ℕ → Decoded
+abbrev pub c_upper : ℕ → Option Inst
 c_upper h = cond (eqb (bits h 11 7) 2) (c_addi16sp h) (c_lui h)
 
 -- C.SRLI and C.SRAI
-abbrev pub c_shift : ShiftOp → ℕ → Decoded
+abbrev pub c_shift : ShiftOp → ℕ → Option Inst
 c_shift o h = clear12 h (Shift o (short9_7 h) (short9_7 h) (bits h 6 2))
 
-abbrev pub c_andi : ℕ → Decoded
-c_andi h = Legal (Imm Andi (short9_7 h) (short9_7 h) (imm6 h))
+abbrev pub c_andi : ℕ → Option Inst
+c_andi h = Some (Imm Andi (short9_7 h) (short9_7 h) (imm6 h))
 
 -- C.SUB, C.XOR, C.OR and C.AND, by the bits 6 to 5
 abbrev pub pairs : List (ℕ × ArithOp)
 pairs = (0b00, Sub) ∷ (0b01, Xor) ∷ (0b10, Or) ∷ (0b11, And) ∷ []
 
-abbrev pub c_pair : ℕ → Decoded
-c_pair h = find Illegal pairs (bits h 6 5) (λ o. clear12 h (Arith o (short9_7 h) (short9_7 h) (short4_2 h)))
+abbrev pub c_pair : ℕ → Option Inst
+c_pair h = find None pairs (bits h 6 5) (λ o. clear12 h (Arith o (short9_7 h) (short9_7 h) (short4_2 h)))
 
 -- MISC-ALU, by the bits 11 to 10. A row holds a function of the halfword; the row that is found is applied to h
-abbrev pub alus : List (ℕ × (ℕ → Decoded))
+abbrev pub alus : List (ℕ × (ℕ → Option Inst))
 alus = (0b00, c_shift Srli) ∷ (0b01, c_shift Srai) ∷ (0b10, c_andi) ∷ (0b11, c_pair) ∷ []
 
-abbrev pub illegal : ℕ → Decoded
-illegal h = Illegal
+abbrev pub illegal : ℕ → Option Inst
+illegal h = None
 
-abbrev pub c_alu : ℕ → Decoded
+abbrev pub c_alu : ℕ → Option Inst
 c_alu h = find illegal alus (bits h 11 10) (λ m. m) h
 
-abbrev pub c_j : ℕ → Decoded
-c_j h = Legal (Jal x0 (imm_cj h))
+abbrev pub c_j : ℕ → Option Inst
+c_j h = Some (Jal x0 (imm_cj h))
 
 -- C.BEQZ and C.BNEZ
-abbrev pub c_branch : Cond → ℕ → Decoded
-c_branch o h = Legal (Branch o (short9_7 h) x0 (imm_cb h))
+abbrev pub c_branch : Cond → ℕ → Option Inst
+c_branch o h = Some (Branch o (short9_7 h) x0 (imm_cb h))
 
-abbrev pub quadrant1 : List (ℕ × (ℕ → Decoded))
+abbrev pub quadrant1 : List (ℕ × (ℕ → Option Inst))
 quadrant1 =
     (0b000, c_addi)
     ∷ (0b001, c_jal)
@@ -166,39 +164,39 @@ quadrant1 =
 
 -- ---- quadrant 2
 
-abbrev pub c_slli : ℕ → Decoded
+abbrev pub c_slli : ℕ → Option Inst
 c_slli h = clear12 h (Shift Slli (reg11_7 h) (reg11_7 h) (bits h 6 2))
 
-abbrev pub c_lwsp : ℕ → Decoded
+abbrev pub c_lwsp : ℕ → Option Inst
 c_lwsp h = nonzero (bits h 11 7) (Load Lw (reg11_7 h) sp (imm_lwsp h))
 
-abbrev pub c_jr : ℕ → Decoded
+abbrev pub c_jr : ℕ → Option Inst
 c_jr h = nonzero (bits h 11 7) (Jalr x0 (reg11_7 h) 0)
 
-abbrev pub c_mv : ℕ → Decoded
-c_mv h = Legal (Arith Add (reg11_7 h) x0 (reg6_2 h))
+abbrev pub c_mv : ℕ → Option Inst
+c_mv h = Some (Arith Add (reg11_7 h) x0 (reg6_2 h))
 
 -- C.EBREAK where rs1 is 0
-abbrev pub c_jalr : ℕ → Decoded
-c_jalr h = Legal (cond (eqb (bits h 11 7) 0) Ebreak (Jalr ra (reg11_7 h) 0))
+abbrev pub c_jalr : ℕ → Option Inst
+c_jalr h = Some (cond (eqb (bits h 11 7) 0) Ebreak (Jalr ra (reg11_7 h) 0))
 
-abbrev pub c_add : ℕ → Decoded
-c_add h = Legal (Arith Add (reg11_7 h) (reg11_7 h) (reg6_2 h))
+abbrev pub c_add : ℕ → Option Inst
+c_add h = Some (Arith Add (reg11_7 h) (reg11_7 h) (reg6_2 h))
 
 -- by bit 12 and whether rs2 is 0
-abbrev pub c_register : ℕ → Decoded
+abbrev pub c_register : ℕ → Option Inst
 c_register h = cond (eqb (bits h 12 12) 0) (cond (eqb (bits h 6 2) 0) (c_jr h) (c_mv h)) (cond (eqb (bits h 6 2) 0) (c_jalr h) (c_add h))
 
-abbrev pub c_swsp : ℕ → Decoded
-c_swsp h = Legal (Store Sw sp (reg6_2 h) (imm_swsp h))
+abbrev pub c_swsp : ℕ → Option Inst
+c_swsp h = Some (Store Sw sp (reg6_2 h) (imm_swsp h))
 
-abbrev pub quadrant2 : List (ℕ × (ℕ → Decoded))
+abbrev pub quadrant2 : List (ℕ × (ℕ → Option Inst))
 quadrant2 = (0b000, c_slli) ∷ (0b010, c_lwsp) ∷ (0b100, c_register) ∷ (0b110, c_swsp) ∷ []
 
 -- ---- all, by the low two bits. Those of a 32-bit instruction are 11
 
-abbrev pub quadrants : List (ℕ × List (ℕ × (ℕ → Decoded)))
+abbrev pub quadrants : List (ℕ × List (ℕ × (ℕ → Option Inst)))
 quadrants = (0b00, quadrant0) ∷ (0b01, quadrant1) ∷ (0b10, quadrant2) ∷ []
 
-unfoldable pub expanded : ℕ → Decoded
+unfoldable pub expanded : ℕ → Option Inst
 expanded h = find illegal quadrants (low 2 h) (λ q. find illegal q (bits h 15 13) (λ m. m)) h

@@ -1,21 +1,16 @@
-// What an instruction is: the registers, the 48 operations with their operands, and what the
-// builder, the decoder, the encoder, the expander and the shortener answer.
+// What an instruction is: the registers, and the 48 operations with their operands.
 #![tactic(auto)]
 
 ghost use Rattle.std.specs.Prelude.{◌≡◌, ◌+◌};
 ghost use Rattle.word.specs.Bits.{low};
 ghost use Rattle.isa.specs.Registers.{reg, register};
 
+use answers::Refusal;
+
 // A register, x0 to x31.
 #[derive(Clone, Copy)]
 pub struct Reg {
     number: u8,
-}
-
-#[derive(Clone, Copy)]
-pub enum Named {
-    Register(Reg),
-    OutOfRange,
 }
 
 impl Reg {
@@ -26,15 +21,15 @@ impl Reg {
     pub const STACK: Reg = Reg { number: 2 };
 
     // The register with this number, which is 0 to 31 and nothing else.
-    pub fn new(number: u32) -> Named
+    pub fn new(number: u32) -> Option<Reg>
         ensures { result ≡ register number }
     {
         if number < 32 {
-            Named::Register(Reg {
+            Some(Reg {
                 number: number as u8,
             })
         } else {
-            Named::OutOfRange
+            None
         }
     }
 
@@ -59,77 +54,79 @@ impl Reg {
     pub fn number(self) -> u32
         ensures { result ≡ self.number }
     {
-        self.number as u32
+        u32::from(self.number)
     }
 }
 
+// The kinds of an instruction, each with its place in the paper's order of the 48.
+
 #[derive(Clone, Copy)]
 pub enum Cond {
-    Beq,
-    Bne,
-    Blt,
-    Bge,
-    Bltu,
-    Bgeu,
+    Beq = 4,
+    Bne = 5,
+    Blt = 6,
+    Bge = 7,
+    Bltu = 8,
+    Bgeu = 9,
 }
 
 #[derive(Clone, Copy)]
 pub enum LoadOp {
-    Lb,
-    Lh,
-    Lw,
-    Lbu,
-    Lhu,
+    Lb = 10,
+    Lh = 11,
+    Lw = 12,
+    Lbu = 13,
+    Lhu = 14,
 }
 
 #[derive(Clone, Copy)]
 pub enum StoreOp {
-    Sb,
-    Sh,
-    Sw,
+    Sb = 15,
+    Sh = 16,
+    Sw = 17,
 }
 
 #[derive(Clone, Copy)]
 pub enum ImmOp {
-    Addi,
-    Slti,
-    Sltiu,
-    Xori,
-    Ori,
-    Andi,
+    Addi = 18,
+    Slti = 19,
+    Sltiu = 20,
+    Xori = 21,
+    Ori = 22,
+    Andi = 23,
 }
 
 #[derive(Clone, Copy)]
 pub enum ShiftOp {
-    Slli,
-    Srli,
-    Srai,
+    Slli = 24,
+    Srli = 25,
+    Srai = 26,
 }
 
 #[derive(Clone, Copy)]
 pub enum ArithOp {
-    Add,
-    Sub,
-    Sll,
-    Slt,
-    Sltu,
-    Xor,
-    Srl,
-    Sra,
-    Or,
-    And,
+    Add = 27,
+    Sub = 28,
+    Sll = 29,
+    Slt = 30,
+    Sltu = 31,
+    Xor = 32,
+    Srl = 33,
+    Sra = 34,
+    Or = 35,
+    And = 36,
 }
 
 #[derive(Clone, Copy)]
 pub enum MulDivOp {
-    Mul,
-    Mulh,
-    Mulhsu,
-    Mulhu,
-    Div,
-    Divu,
-    Rem,
-    Remu,
+    Mul = 40,
+    Mulh = 41,
+    Mulhsu = 42,
+    Mulhu = 43,
+    Div = 44,
+    Divu = 45,
+    Rem = 46,
+    Remu = 47,
 }
 
 // An operation and the operands that its text shows, in the order rd, rs1, rs2, immediate.
@@ -153,38 +150,29 @@ pub enum Inst {
     MulDiv(MulDivOp, Reg, Reg, Reg),
 }
 
-// What five numbers mean: an operation's and its operands'.
+// Why an instruction has no halfword.
 #[derive(Clone, Copy)]
-pub enum Built {
-    Instruction(Inst),
-    OutOfRange,
-}
-
-// What 32 or 16 bits mean.
-#[derive(Clone, Copy)]
-pub enum Decoded {
-    Legal(Inst),
-    Illegal,
-}
-
-// The word of an instruction.
-#[derive(Clone, Copy)]
-pub enum Encoded {
-    Bits(u32),
-    OutOfRange,
-}
-
-// The smallest halfword that stands for an instruction.
-#[derive(Clone, Copy)]
-pub enum Shortened {
-    Half(u16),
+pub enum Unshortened {
     OutOfRange,
     NoShortForm,
 }
 
-// An instruction as numbers: its operation's place in the paper's order, and its operands, 0 for
-// each that it does not have.
-#[derive(Clone, Copy)]
+impl From<Unshortened> for Refusal {
+    ghost use Rattle.isa.specs.Answers.{refusal_of};
+
+    ghost from_gives = { λ why r. r ≡ refusal_of why };
+
+    fn from(why: Unshortened) -> Refusal {
+        match why {
+            Unshortened::OutOfRange => Refusal::Field,
+            Unshortened::NoShortForm => Refusal::NoShortForm,
+        }
+    }
+}
+
+// An instruction as numbers, as the C interface has it: its operation's place in the paper's order, and
+// its operands, 0 for each that it does not have.
+#[derive(Clone, Copy, PartialEq, Eq)]
 pub struct Parts {
     pub operation: u8,
     pub rd: u32,

@@ -13,21 +13,21 @@ use Rattle.ascii.proofs.Numbers.{hex-length}
 use Rattle.isa.specs.declared.Inst.{Inst}
 use Rattle.word.proofs.Bools.{either}
 use Rattle.octets.proofs.Bytes.{Bytes}
-use Rattle.fetch.specs.declared.Fetched.{Fetched}
-use Rattle.fetch.specs.declared.Fetched.TheVariants.{Instruction, Fails}
 use Rattle.fetch.specs.Fetching.{fetched}
 use Rattle.fetch.proofs.Laws.{fetched_real}
 use Rattle.text.proofs.Lengths.{text_fits, short_text_bound}
 use Rattle.listing.specs.declared.Shown.{Shown}
 use Rattle.listing.specs.declared.Shown.TheVariants.{Long, Short, Unknown, Odd}
 use Rattle.listing.specs.Listing.{shown_of, shown_at, size_of, shown_text, Lines, lines, line_of, line_at}
+use Rattle.fetch.specs.Fetching.{Fetched}
+use Rattle.std.specs.Prelude.{Err, Ok}
 
 -- ---- what a line shows
 
 module _ (image : List ℕ) (a : ℕ) where
   -- what holds of each thing that can be shown
   shown-is : (P : Shown → Type 0) → P Odd → (a + 2 ≤ length image → P Unknown)
-      → ((i : Inst) (len : ℕ) → a + 2 ≤ length image → fetched a image ≡ Instruction i len → (len ≡ 4 → P (Long i)) × P (Short i))
+      → ((i : Inst) (len : ℕ) → a + 2 ≤ length image → fetched a image ≡ Ok (i, len) → (len ≡ 4 → P (Long i)) × P (Short i))
       → P (shown_at image a)
   unfolding shown_at shown_of
   shown-is P odd unknown known = two (leb (a + 2) (length image)) refl
@@ -37,8 +37,8 @@ module _ (image : List ℕ) (a : ℕ) where
       by_size i len k false e = k.1
 
       go : a + 2 ≤ length image → (r : Fetched) → fetched a image ≡ r → P (shown_of r)
-      go h (Instruction i len) e = by_size i len (known i len h e) (eqb len 4) refl
-      go h (Fails stop) e = unknown h
+      go h (Ok (i, len)) e = by_size i len (known i len h e) (eqb len 4) refl
+      go h (Err stop) e = unknown h
 
       two : (t : Bool) → leb (a + 2) (length image) ≡ t → P (cond t (shown_of (fetched a image)) Odd)
       two true e = go (leb-true _ _ e) (fetched a image) refl

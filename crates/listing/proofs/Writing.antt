@@ -49,9 +49,9 @@ module _ (image : List ℕ) (from : ℕ) (room₀ : List ℕ) where
                 (r ∙ ap (before (lines w.text a)) (page_on image n (length room₀ - length w.text) a h (omega arith)));
           }
 
-  pub ends : {room : List ℕ} {end next : ℕ} → (length image ≤ next) ⊎ (length room₀ < end + 38) → Written image from room₀ room end next
-      → outcome (record { length = end; next = next }) room ≡ list_entry image from room₀
-  ends {next = a} h w =
+  pub ends : {room last : List ℕ} {end next : ℕ} → last ≡ room → (length image ≤ next) ⊎ (length room₀ < end + 38) → Written image from room₀ room end next
+      → outcome (record { length = end; next = next }) last ≡ list_entry image from room₀
+  ends {next = a} e h w =
       let f = at_front w.wrote w.fits in
       let g : (length image ≤ a) ⊎ (length room₀ - length w.text < 38) = ⊎_elim (λ k. inl k) (λ k. inr (omega (arith, f.1))) h in
-      rw (w.rest, page_end image w.more (length room₀ - length w.text) a g, append-nil w.text, f.0, f.1)
+      rw (e, w.rest, page_end image w.more (length room₀ - length w.text) a g, append-nil w.text, f.0, f.1)

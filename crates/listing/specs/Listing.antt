@@ -5,20 +5,20 @@ use Rattle.ascii.specs.Ascii.{bytes}
 use Rattle.ascii.specs.Numbers.{hex}
 use Rattle.ascii.specs.Rooms.{fronted}
 use Rattle.octets.specs.Bytes.{load}
-use Rattle.fetch.specs.declared.Fetched.{Fetched}
-use Rattle.fetch.specs.declared.Fetched.TheVariants.{Instruction, Fails}
 use Rattle.fetch.specs.Fetching.{fetched}
 use Rattle.text.specs.Text.{text_of, short_text_of}
 use Rattle.listing.specs.declared.Shown.{Shown}
 use Rattle.listing.specs.declared.Shown.TheVariants.{Long, Short, Unknown, Odd}
 use Rattle.listing.specs.declared.Listed.{Listed}
+use Rattle.fetch.specs.Fetching.{Fetched}
+use Rattle.std.specs.Prelude.{Err, Ok}
 
 -- ---- what a line shows
 
 -- an instruction of four bytes or of two; bits that are not a legal instruction that fits
 unfoldable pub shown_of : Fetched → Shown
-shown_of (Instruction i len) = cond (eqb len 4) (Long i) (Short i)
-shown_of (Fails stop) = Unknown
+shown_of (Ok (i, len)) = cond (eqb len 4) (Long i) (Short i)
+shown_of (Err stop) = Unknown
 
 -- at address a: what a step would fetch there; a last odd byte
 unfoldable pub shown_at : List ℕ → ℕ → Shown

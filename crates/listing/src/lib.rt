@@ -5,14 +5,14 @@ ghost use Rattle.std.specs.Prelude.{◌≡◌, ◌++◌, ◌+◌, ◌≤◌, ◌
 ghost use Rattle.answers.specs.Outcomes.{outcome};
 ghost use Rattle.ascii.specs.Ascii.{bytes};
 ghost use Rattle.ascii.specs.Numbers.{hex};
-ghost use Rattle.ascii.specs.Rooms.{Wrote};
+ghost use Rattle.ascii.specs.Rooms.{HasRoom, Appended};
 ghost use Rattle.octets.specs.Bytes.{load};
 ghost use Rattle.listing.specs.Listing.{shown_at, size_of, shown_text, line_at, list_entry};
 
-use ascii::{put, put_all, put_hex};
-use fetch::{Fetched, fetch};
+use ascii::Cursor;
+use fetch::fetch;
 use isa::Inst;
-use octets::{load1, load2, load4};
+use octets::load;
 use text::{put_short_text, put_text};
 
 // What `list` answers: the length of what it wrote, and the address of the line that comes next.
@@ -37,14 +37,43 @@ pub enum Shown {
     Odd,
 }
 
-// A line that has been written: the place after it, and the address after what it shows.
-#[derive(Clone, Copy)]
-struct Line {
-    end: usize,
-    next: usize,
+impl Shown {
+    fn size(self) -> usize
+        ensures { result ≡ size_of self }
+    {
+        match self {
+            Shown::Long(_) => 4,
+            Shown::Short(_) | Shown::Unknown => 2,
+            Shown::Odd => 1,
+        }
+    }
+
+    // The bytes that are shown, as a number.
+    fn bits(self, image: &[u8], at: usize) -> u32
+        requires { at + size_of self ≤ length image.now }
+        ensures { result ≡ load (size_of self) at image.now }
+    {
+        match self {
+            Shown::Long(_) => load::<4>(image, at) as u32,
+            Shown::Short(_) | Shown::Unknown => load::<2>(image, at) as u32,
+            Shown::Odd => load::<1>(image, at) as u32,
+        }
+    }
+
+    fn put(self, out: &mut Cursor)
+        requires { HasRoom out.old (shown_text self) }
+        ensures { Appended out.old (shown_text self) out.new }
+    {
+        match self {
+            Shown::Long(i) => put_text(out, i),
+            Shown::Short(i) => put_short_text(out, i),
+            Shown::Unknown | Shown::Odd => out.put(b'?'),
+        }
+    }
 }
 
 // What a step would fetch at an address; a byte that is the last is no instruction.
+#[tactic(auto, unfolding(crate::specs::Listing::shown_at, crate::specs::Listing::shown_of))]
 fn shown_at(image: &[u8], at: usize) -> Shown
     requires { at < 65536 }
     ensures { result ≡ shown_at image.now at }
@@ -52,84 +81,41 @@ fn shown_at(image: &[u8], at: usize) -> Shown
     if at + 2 > image.len() {
         return Shown::Odd;
     }
-    let Fetched::Instruction(i, size) = fetch(at as u32, image) else {
-        return Shown::Unknown;
-    };
-    if size == 4 {
-        Shown::Long(i)
-    } else {
-        Shown::Short(i)
-    }
-}
-
-fn size_of(shown: Shown) -> usize
-    ensures { result ≡ size_of shown }
-{
-    match shown {
-        Shown::Long(_) => 4,
-        Shown::Short(_) => 2,
-        Shown::Unknown => 2,
-        Shown::Odd => 1,
-    }
-}
-
-// The bytes that are shown, as a number.
-fn bits_of(image: &[u8], at: usize, shown: Shown) -> u32
-    requires { at + size_of shown ≤ length image.now }
-    ensures { result ≡ load (size_of shown) at image.now }
-{
-    match shown {
-        Shown::Long(_) => load4(image, at),
-        Shown::Short(_) => load2(image, at) as u32,
-        Shown::Unknown => load2(image, at) as u32,
-        Shown::Odd => load1(image, at) as u32,
+    match fetch(at as u32, image) {
+        Ok((i, 4)) => Shown::Long(i),
+        Ok((i, _)) => Shown::Short(i),
+        Err(_) => Shown::Unknown,
     }
 }
 
 // The address and the bits in hexadecimal, each with a space after it.
-fn put_front(room: &mut [u8], from: usize, address: u32, bits: u32, digits: usize) -> usize
-    requires { from + (digits + 10) ≤ length room.old }
-    ensures { Wrote room.old from (hex 8 address ++ bytes " " ++ hex digits bits ++ bytes " ") room.new result }
+fn put_front(out: &mut Cursor, address: u32, bits: u32, digits: usize)
+    requires { HasRoom out.old (hex 8 address ++ bytes " " ++ hex digits bits ++ bytes " ") }
+    ensures { Appended out.old (hex 8 address ++ bytes " " ++ hex digits bits ++ bytes " ") out.new }
 {
-    let space = put_hex(room, from, address, 8);
-    let number = put(room, space, b' ');
-    let end = put_hex(room, number, bits, digits);
-    put(room, end, b' ')
+    out.put_hex(address, 8);
+    out.put(b' ');
+    out.put_hex(bits, digits);
+    out.put(b' ');
 }
 
-fn put_shown(room: &mut [u8], at: usize, shown: Shown) -> usize
-    requires { at + length (shown_text shown) ≤ length room.old }
-    ensures { Wrote room.old at (shown_text shown) room.new result }
-{
-    match shown {
-        Shown::Long(i) => put_text(room, at, i),
-        Shown::Short(i) => put_short_text(room, at, i),
-        Shown::Unknown => put(room, at, b'?'),
-        Shown::Odd => put(room, at, b'?'),
-    }
-}
-
-// The line at an address of the image.
-fn put_line(image: &[u8], at: usize, room: &mut [u8], from: usize) -> Line
+// The line at an address of the image; the answer is the address after what it shows.
+fn put_line(image: &[u8], at: usize, out: &mut Cursor) -> usize
     requires at_in_bounds { at < length image.now }
-    requires from_in_bounds { from + 38 ≤ length room.old }
-    ensures wrote { Wrote room.old from (line_at image.now at).text room.new result.end }
-    ensures next_value { result.next ≡ (line_at image.now at).next }
+    requires has_room { out.old.at + 38 ≤ length out.old.room.now }
+    ensures wrote { Appended out.old (line_at image.now at).text out.new }
+    ensures next_value { result ≡ (line_at image.now at).next }
 {
     if image.len() > IMAGE {
-        return Line {
-            end: put_all(room, from, b"too long\n"),
-            next: image.len(),
-        };
+        out.put_all(b"too long\n");
+        return image.len();
     }
     let shown = shown_at(image, at);
-    let size = size_of(shown);
-    let text = put_front(room, from, at as u32, bits_of(image, at, shown), 2 * size);
-    let newline = put_shown(room, text, shown);
-    Line {
-        end: put(room, newline, b'\n'),
-        next: at + size,
-    }
+    let size = shown.size();
+    put_front(out, at as u32, shown.bits(image, at), 2 * size);
+    shown.put(out);
+    out.put(b'\n');
+    at + size
 }
 
 // Whole lines from an address of the image on, as long as there are any and the room has place for
@@ -137,12 +123,14 @@ fn put_line(image: &[u8], at: usize, room: &mut [u8], from: usize) -> Line
 pub fn list(image: &[u8], from: usize, room: &mut [u8]) -> Listed
     ensures { outcome result room.new ≡ list_entry image.now from room.old }
 {
-    let mut length = 0;
+    let mut out = Cursor { room, at: 0 };
     let mut next = from;
-    while next < image.len() && room.len() - length >= LINE {
-        let line = put_line(image, next, room, length);
-        length = line.end;
-        next = line.next;
+    // by the address that each line answers: lines show one, two or four bytes
+    while next < image.len() && out.room.len() - out.at >= LINE {
+        next = put_line(image, next, &mut out);
     }
-    Listed { length, next }
+    Listed {
+        length: out.at,
+        next,
+    }
 }

@@ -1,5 +1,5 @@
 -- A number as the reader holds it is the number in front.
-use Rattle.std.proofs.Common.{◌≡◌, ℕ, zero, suc, ◌+◌, ◌-◌, ◌*◌, ◌^◌, ◌<◌, ◌≤◌, Bool, true, false, cond, not, ◌&&◌, ◌||◌, eqb, ltb, ◌⊎◌, List, [], ◌∷◌, length, get_or, take, drop, sym, refl, ap, ◌∙◌, subst, inl, inr, ⊎_elim, add-zero, arith, ltb→lt, length-take-le, get_or-drop, drop-drop, take-add, drop_at, ltb-true, le-ltb, lt-ltb, eq-eqb, ne_eqb, eqb-true}
+use Rattle.std.proofs.Common.{Ok, Err, Some, None, Option, Result, ◌≡◌, ℕ, zero, suc, ◌+◌, ◌-◌, ◌*◌, ◌^◌, ◌<◌, ◌≤◌, Bool, true, false, cond, not, ◌&&◌, ◌||◌, eqb, ltb, ◌⊎◌, List, [], ◌∷◌, length, get_or, take, drop, sym, refl, ap, ◌∙◌, subst, inl, inr, ⊎_elim, add-zero, arith, ltb→lt, length-take-le, get_or-drop, drop-drop, take-add, drop_at, ltb-true, le-ltb, lt-ltb, eq-eqb, ne_eqb, eqb-true}
 use Rattle.word.proofs.Bools.{below, and_left, and_right, holds, is_true}
 use Rattle.assembly.specs.Lines.{is_digit, minus}
 use Rattle.assembly.specs.Scanner.{run, numeral}
@@ -8,7 +8,7 @@ use Rattle.assembly.proofs.Runs.{read_number}
 use Rattle.numerals.proofs.Laws.{first_of, tally-pos}
 use Rattle.numerals.specs.declared.Digits.{Digits}
 use Rattle.numerals.specs.declared.Number.{Number}
-use Rattle.numerals.specs.Numbers.{grown, tally, digits_at, tidy, front, good, number_at}
+use Rattle.numerals.specs.Numbers.{grown, tally, digits_at, tidy, front, good, value_at, number_at}
 
 -- ---- the value: the same, or both past 32 bits
 
@@ -73,14 +73,10 @@ in_front f l h =
 
 -- ---- as the reader has it: a sign m, r digits, the value t, the first digit b
 
-abbrev pub held : ℕ → ℕ → ℕ → ℕ → ℕ → Number
+abbrev pub held : ℕ → ℕ → ℕ → ℕ → ℕ → Result Number ℕ
 held at m r t b =
-    record {
-      end = at + (m + r);
-      any = ltb m (m + r);
-      good = ltb m (m + r) && (tidy b (m + r) && ltb t (2 ^ 31 + m));
-      value = cond (ltb m (m + r) && (tidy b (m + r) && ltb t (2 ^ 31 + m))) (cond (eqb m 1) (2 ^ 32 - t) t) 0;
-    }
+    cond (ltb m (m + r)) (Ok (record { end = at + (m + r); value = cond (tidy b (m + r) && ltb t (2 ^ 31 + m)) (Some (cond (eqb m 1) (2 ^ 32 - t) t)) None }))
+    (Err (at + (m + r)))
 
 near_test : (t v n : ℕ) → Near t v → n ≤ 2 ^ 32 → ltb t n ≡ ltb v n
 unfolding Near
@@ -118,18 +114,16 @@ number_held f at l = go (ltb m (numeral f l)) refl
     v : ℕ
     v = magnitude f (front f l)
 
-    num : Bool → Bool → ℕ → Number
-    num a g v = record { end = at + numeral f l; any = a; good = g; value = v }
+    num : Bool → Option ℕ → Result Number ℕ
+    num a v = cond a (Ok (record { end = at + numeral f l; value = v })) (Err (at + numeral f l))
 
-    values : (g : Bool) → (g ≡ true → t ≡ v) → cond g (cond (eqb m 1) (2 ^ 32 - t) t) 0 ≡ cond g (cond (eqb m 1) (2 ^ 32 - v) v) 0
+    values : (g : Bool) → (g ≡ true → t ≡ v) → cond g (Some (cond (eqb m 1) (2 ^ 32 - t) t)) None ≡ cond g (Some (cond (eqb m 1) (2 ^ 32 - v) v)) None
     values true e = rw (e refl)
     values false e = refl
 
-    go : (a : Bool) → ltb m (numeral f l) ≡ a
-        → num a (a && (tidy b (numeral f l) && ltb t (2 ^ 31 + m))) (cond (a && (tidy b (numeral f l) && ltb t (2 ^ 31 + m))) (cond (eqb m 1) (2 ^ 32 - t) t) 0)
-        ≡ num a (a && good f l) (cond (a && good f l) (value_of f (front f l)) 0)
+    go : (a : Bool) → ltb m (numeral f l) ≡ a → num a (cond (tidy b (numeral f l) && ltb t (2 ^ 31 + m)) (Some (cond (eqb m 1) (2 ^ 32 - t) t)) None) ≡ num a (value_at f l)
     go false e = refl
-    go true e = λ i. num true (sym same i) (both i)
+    go true e = λ i. num true (both i)
       where
         F : Front f l
         F = in_front f l (ltb-true m (numeral f l) e)
@@ -157,16 +151,16 @@ number_held f at l = go (ltb m (numeral f l)) refl
         value_same : value_of f (front f l) ≡ cond (eqb m 1) (2 ^ 32 - v) v
         value_same = ap (λ (k : ℕ). cond (eqb k 1) (2 ^ 32 - v) v) F.sign
 
-        both : cond (tidy b (numeral f l) && ltb t (2 ^ 31 + m)) (cond (eqb m 1) (2 ^ 32 - t) t) 0 ≡ cond (good f l) (value_of f (front f l)) 0
+        both : cond (tidy b (numeral f l) && ltb t (2 ^ 31 + m)) (Some (cond (eqb m 1) (2 ^ 32 - t) t)) None ≡ value_at f l
         both =
             values (tidy b (numeral f l) && ltb t (2 ^ 31 + m))
             (λ g. near_same t v (2 ^ 31 + m) close low (ltb→lt t (2 ^ 31 + m) (and_right (tidy b (numeral f l)) _ (holds _ g))))
-            ∙ (λ i. cond (sym same i) (sym value_same i) 0)
+            ∙ (λ i. cond (sym same i) (Some (sym value_same i)) None)
 
 -- ---- the reader's paths
 
-abbrev pub num : ℕ → Bool → Bool → ℕ → Number
-num e a g v = record { end = e; any = a; good = g; value = v }
+abbrev pub num : ℕ → Option ℕ → Result Number ℕ
+num e v = Ok (record { end = e; value = v })
 
 -- no leading zero, no minus on zero, and 32 bits with its sign
 abbrev pub fine : ℕ → List ℕ → ℕ → Digits → Bool
@@ -185,21 +179,6 @@ module _ (f from : ℕ) (s : List ℕ) (sign : ℕ) (d : Digits) (es : sign ≡ 
       let b : get_or s (from + sign) 0 ≡ get_or (drop (from + sign) s) 0 0 = sym (get_or-drop (from + sign) s 0 0 ∙ ap (λ (k : ℕ). get_or s k 0) (add-zero (from + sign))) in
       let e : drop (from + sign) s ≡ drop (minus f (drop from s)) (drop from s) = sym (drop-drop sign from s) ∙ ap (λ (k : ℕ). drop k (drop from s)) es in
       (λ i. held from (es i) (r i) (value-is i) (b i)) ∙ ap (λ (l : List ℕ). held from (minus f (drop from s)) (run l) (tally 0 l) (get_or l 0 0)) e ∙ number_held f from (drop from s)
-
-  pub none : d.end ≡ from + sign → num d.end false false 0 ≡ number_at f from (drop from s)
-  none e = (λ i. num (k i) (sym any i) (sym any i && (tidy b (sign + r) && ltb d.value (2 ^ 31 + sign))) (cond (sym any i && (tidy b (sign + r) && ltb d.value (2 ^ 31 + sign))) (cond (eqb sign 1) (2 ^ 32 - d.value) d.value) 0)) ∙ whole
-    where
-      r : ℕ
-      r = d.end - (from + sign)
-
-      b : ℕ
-      b = get_or s (from + sign) 0
-
-      any : ltb sign (sign + r) ≡ false
-      any = le-ltb sign (sign + r) (omega arith)
-
-      k : d.end ≡ from + (sign + r)
-      k = omega arith
 
   module _ (some : d.end ≡ from + sign → ⊥) where
     r : ℕ
@@ -220,25 +199,25 @@ module _ (f from : ℕ) (s : List ℕ) (sign : ℕ) (d : Digits) (es : sign ≡ 
     unfolding r
     n = omega (arith, end_is)
 
-    by : (g : Bool) → fine from s sign d ≡ g → num d.end true g (cond g (cond (eqb sign 1) (2 ^ 32 - d.value) d.value) 0) ≡ number_at f from (drop from s)
+    by : (g : Bool) → fine from s sign d ≡ g → num d.end (cond g (Some (cond (eqb sign 1) (2 ^ 32 - d.value) d.value)) None) ≡ number_at f from (drop from s)
     unfolding r b
-    by g e = sym (ap (λ (g : Bool). num d.end true g (cond g (cond (eqb sign 1) (2 ^ 32 - d.value) d.value) 0)) e) ∙ sym bare ∙ whole
+    by g e = sym (ap (λ (g : Bool). num d.end (cond g (Some (cond (eqb sign 1) (2 ^ 32 - d.value) d.value)) None)) e) ∙ sym bare ∙ whole
       where
-        bare : held from sign (d.end - (from + sign)) d.value (get_or s (from + sign) 0) ≡ num d.end true (fine from s sign d) (cond (fine from s sign d) (cond (eqb sign 1) (2 ^ 32 - d.value) d.value) 0)
-        bare = λ i. num (k i) (any i) (any i && (tidy b (n i) && ltb d.value (2 ^ 31 + sign))) (cond (any i && (tidy b (n i) && ltb d.value (2 ^ 31 + sign))) (cond (eqb sign 1) (2 ^ 32 - d.value) d.value) 0)
+        bare : held from sign (d.end - (from + sign)) d.value (get_or s (from + sign) 0) ≡ num d.end (cond (fine from s sign d) (Some (cond (eqb sign 1) (2 ^ 32 - d.value) d.value)) None)
+        bare = λ i. cond (any i) (num (k i) (cond (tidy b (n i) && ltb d.value (2 ^ 31 + sign)) (Some (cond (eqb sign 1) (2 ^ 32 - d.value) d.value)) None)) (Err (k i))
 
-    pub bad : fine from s sign d ≡ false → num d.end true false 0 ≡ number_at f from (drop from s)
+    pub bad : fine from s sign d ≡ false → num d.end None ≡ number_at f from (drop from s)
     bad e = by false e
 
     module _ (e : fine from s sign d ≡ true) where
       pub small : d.value < 2 ^ 31 + sign
       small = ltb→lt d.value (2 ^ 31 + sign) (and_right (tidy (get_or s (from + sign) 0) (d.end - from)) _ (holds _ e))
 
-      pub negative : sign ≡ 1 → num d.end true true (2 ^ 32 - d.value) ≡ number_at f from (drop from s)
-      negative q = ap (λ (t : Bool). num d.end true true (cond t (2 ^ 32 - d.value) d.value)) (sym (eq-eqb sign 1 q)) ∙ by true e
+      pub negative : sign ≡ 1 → num d.end (Some (2 ^ 32 - d.value)) ≡ number_at f from (drop from s)
+      negative q = ap (λ (t : Bool). num d.end (Some (cond t (2 ^ 32 - d.value) d.value))) (sym (eq-eqb sign 1 q)) ∙ by true e
 
-      pub bare : (sign ≡ 1 → ⊥) → num d.end true true d.value ≡ number_at f from (drop from s)
-      bare q = ap (λ (t : Bool). num d.end true true (cond t (2 ^ 32 - d.value) d.value)) (sym (ne_eqb sign 1 q)) ∙ by true e
+      pub bare : (sign ≡ 1 → ⊥) → num d.end (Some d.value) ≡ number_at f from (drop from s)
+      bare q = ap (λ (t : Bool). num d.end (Some (cond t (2 ^ 32 - d.value) d.value))) (sym (ne_eqb sign 1 q)) ∙ by true e
 
       -- a number with a minus is not 0
       pub value_pos : sign ≡ 1 → 0 < d.value

@@ -2,8 +2,38 @@
 #![tactic(auto)]
 
 ghost use Rattle.std.specs.Prelude.{◌≡◌, ◌≤◌, length, drop};
-ghost use Rattle.assembly.specs.Lines.{minus as Lines·minus};
-ghost use Rattle.numerals.specs.Numbers.{grown as Numbers·grown, digits_at, tidy as Numbers·tidy, number_at};
+ghost use Rattle.assembly.specs.Lines.{minus};
+ghost use Rattle.numerals.specs.Numbers.{grown, digits_at, tidy, number_at, digit_of, field_in};
+
+// What a number of a line is for.
+#[derive(Clone, Copy)]
+pub enum Field {
+    Rd = 1,
+    Rs1 = 2,
+    Rs2 = 3,
+    Imm = 4,
+}
+
+impl Field {
+    // The field whose number a byte of a sample line stands for.
+    pub fn of_sample(byte: u8) -> Option<Field>
+        ensures { result ≡ field_in byte }
+    {
+        match byte {
+            b'1' => Some(Field::Rd),
+            b'2' => Some(Field::Rs1),
+            b'3' => Some(Field::Rs2),
+            b'4' => Some(Field::Imm),
+            _ => None,
+        }
+    }
+
+    pub fn number(self) -> u8
+        ensures { result ≡ digit_of self }
+    {
+        self as u8
+    }
+}
 
 // Digits that were read: the place after them, and their value.
 #[derive(Clone, Copy)]
@@ -12,20 +42,18 @@ pub struct Digits {
     pub value: u64,
 }
 
-// A number that was read: the place after it, whether it has a digit, whether it is written as
-// numbers are and has 32 bits, and its value then.
+// A number that was read: the place after it, and its value if it is written as numbers are and has
+// 32 bits.
 #[derive(Clone, Copy)]
 pub struct Number {
     pub end: usize,
-    pub any: bool,
-    pub good: bool,
-    pub value: u32,
+    pub value: Option<u32>,
 }
 
 // A value with one digit more. From 32 bits on it stays.
-fn grown(value: u64, digit: u8) -> u64
+fn with_digit(value: u64, digit: u8) -> u64
     requires { (48 ≤ digit) × (digit ≤ 57) }
-    ensures { result ≡ Numbers·grown value digit }
+    ensures { result ≡ grown value digit }
 {
     if value < 0x1_0000_0000 {
         return value * 10 + (digit - b'0') as u64;
@@ -38,87 +66,55 @@ fn read_digits(text: &[u8], from: usize) -> Digits
     requires { from ≤ length text.now }
     ensures { result ≡ digits_at from (drop from text.now) }
 {
-    let mut at = from;
-    let mut value: u64 = 0;
-    while at < text.len() {
-        let b = text[at];
-        if b < b'0' {
-            return Digits { end: at, value };
+    let mut end = from;
+    let mut value = 0;
+    for b in &text[from..] {
+        if !b.is_ascii_digit() {
+            break;
         }
-        if b > b'9' {
-            return Digits { end: at, value };
-        }
-        value = grown(value, b);
-        at += 1;
+        value = with_digit(value, *b);
+        end += 1;
     }
-    Digits { end: at, value }
+    Digits { end, value }
 }
 
-// The length of the minus sign at a place, 1 or 0. An immediate, field 4, may have one.
-fn minus(text: &[u8], at: usize, field: u8) -> usize
-    ensures { result ≡ Lines·minus field (drop at text.now) }
+// The length of the minus sign at a place, 1 or 0. Only an immediate, field 4, may have one.
+fn sign_length(text: &[u8], at: usize, field: u8) -> usize
+    ensures { result ≡ minus field (drop at text.now) }
 {
-    if field != 4 {
-        return 0;
+    if field == Field::Imm as u8 && text.get(at) == Some(&b'-') {
+        1
+    } else {
+        0
     }
-    if at >= text.len() {
-        return 0;
-    }
-    if text[at] != b'-' {
-        return 0;
-    }
-    1
 }
 
 // No leading zero and no minus on zero: the first digit is 0 only in a number of one byte.
-fn tidy(first: u8, length: usize) -> bool
-    ensures { result ≡ Numbers·tidy first length }
+fn is_tidy(first: u8, length: usize) -> bool
+    ensures { result ≡ tidy first length }
 {
-    if first != b'0' {
-        return true;
-    }
-    length == 1
+    first != b'0' || length == 1
 }
 
-// The number of a field from a place on.
-pub fn read_number(text: &[u8], from: usize, field: u8) -> Number
+// The number of a field from a place on, or the place where its first digit is missing. The field is any
+// number: all but 4 are read without a minus.
+pub fn read_number(text: &[u8], from: usize, field: u8) -> Result<Number, usize>
     requires { from ≤ length text.now }
     ensures { result ≡ number_at field from (drop from text.now) }
 {
-    let sign = minus(text, from, field);
+    let sign = sign_length(text, from, field);
     let first = from + sign;
-    let digits = read_digits(text, first);
-    let end = digits.end;
-    let value = digits.value;
+    let Digits { end, value } = read_digits(text, first);
     if end == first {
-        return Number {
-            end,
-            any: false,
-            good: false,
-            value: 0,
-        };
+        return Err(end);
     }
     let fits = value < 0x8000_0000 + sign as u64;
-    if !(tidy(text[first], end - from) & fits) {
-        return Number {
-            end,
-            any: true,
-            good: false,
-            value: 0,
-        };
-    }
-    if sign == 1 {
-        return Number {
-            end,
-            any: true,
-            good: true,
-            value: std::num::wrapping_sub_u32(0, value as u32),
-        };
-    }
-    Number {
-        end,
-        any: true,
-        good: true,
-        value: value as u32,
-    }
+    let value = if !(is_tidy(text[first], end - from) & fits) {
+        None
+    } else if sign == 1 {
+        Some((value as u32).wrapping_neg())
+    } else {
+        Some(value as u32)
+    };
+    Ok(Number { end, value })
 }

@@ -1,16 +1,17 @@
 -- Little-endian numbers, over the width: a load or a store of n + k bytes is one of n and one of k, a load beside a store is what it was, and bytes stay bytes.
 use Prim.Native.Nat.{ℕ, zero, suc, ◌+◌, ◌-◌, ◌*◌, ◌/◌, ◌%◌, ◌^◌, ◌≤◌, ◌<◌}
-use native.Mathlib.Nat.{add_assoc, zero-add, suc-add, mul_assoc, div-one}
+use native.Mathlib.Nat.{add_assoc, zero-add, suc-add, mul_assoc, div-one, div-div-eq-div-mul, pow-suc}
 use native.Mathlib.Numerals.{add-one}
 use native.Mathlib.Omega.{arith}
-use mathlib.Core.Path.{◌≡◌, refl, sym, ap}
+use mathlib.Core.Path.{◌≡◌, refl, sym, ap, ◌∙◌}
 use mathlib.Core.Logic.{◌⊎◌, inl, inr}
 use mathlib.Core.List.{List, [], ◌∷◌, ◌++◌, append_assoc}
 use Rattle.word.specs.Bounds.{AllBelow}
 use Rattle.word.proofs.Bounds.{below_append, below_take, below_drop, below_get}
-use lib.ListN.{length, take, drop, get_or, set, length-append, length-take, length-drop, take-append-drop}
-use lib.Seq.{take-append-le, drop-append-le, take-add, drop-drop, length-take-le, take_at, drop_at, drop-cons, set_split, append_snoc, get_or-drop}
+use lib.ListN.{length, take, drop, get_or, set, replicate, length-append, length-take, length-drop, take-append-drop}
+use lib.Seq.{take-append-le, take-suc, take_all, drop-append-le, take-add, drop-drop, length-take-le, take_at, drop_at, drop-cons, set_split, append_snoc, get_or-drop}
 use lib.Pow.{pow_pos, pow-add, shr-shr, field, mod-mod-pow, mod-pow-add}
+use Rattle.std.specs.Int.{w64, byte_at, byte_worth, bytes_low_first, sum_through, from_le_bytes, to_le_bytes}
 use Rattle.octets.specs.Bytes.{little_endian, of_little_endian, load, store}
 
 eight : (n : ℕ) → 8 * suc n ≡ 8 * n + 8
@@ -30,6 +31,23 @@ le_add (suc n) k v =
     let e : 8 * suc n ≡ 8 + 8 * n = omega arith in
     rw (suc-add, e, ← (shr-shr v 8 (8 * n)), le_add n k (v / 256))
 
+byte_of : (i v : ℕ) → byte_at i v ≡ v / 256 ^ i % 256
+byte_of zero v = rw div-one
+byte_of (suc i) v = refl
+
+-- the first n of the bytes of a number from its byte i on
+take_low : (n i k v : ℕ) → n ≤ k → take n (bytes_low_first i k v) ≡ little_endian n (v / 256 ^ i)
+unfolding little_endian
+take_low zero i k v h = refl
+take_low (suc n) i zero v h = absurd (omega arith)
+take_low (suc n) i (suc k) v h =
+    let e : v / 256 ^ i / 256 ≡ v / 256 ^ suc i = rw (div-div-eq-div-mul v (256 ^ i) 256, ← (pow-suc 256 i)) in
+    rw (byte_of, take_low n (suc i) k v (omega arith), e)
+
+-- the first n that `to_le_bytes` gives
+pub low_bytes : (n v : ℕ) → n ≤ 8 → take n (to_le_bytes w64 v) ≡ little_endian n v
+low_bytes n v h = take_low n 0 8 v h ∙ rw div-one
+
 le_mod : (n v : ℕ) → little_endian n (v % 2 ^ (8 * n)) ≡ little_endian n v
 unfolding little_endian
 le_mod zero v = refl
@@ -47,7 +65,42 @@ unfolding little_endian of_little_endian
 of_le zero v = omega arith
 of_le (suc n) v = rw (eight n, mod-pow-add v (8 * n) 8) (omega (arith, of_le n (v / 256)))
 
+-- ---- the number that `from_le_bytes` gives
+
+powers : (n : ℕ) → 256 ^ n ≡ 2 ^ (8 * n)
+powers zero = refl
+powers (suc n) = rw (eight n, pow-suc, pow-add 2 (8 * n) 8, powers n)
+
+sum_le : (n : ℕ) (s : List ℕ) → n < length s → sum_through (λ i. byte_worth i (get_or s i 0)) n ≡ of_little_endian (take (suc n) s)
+unfolding of_little_endian
+sum_le zero [] h = absurd (omega arith)
+sum_le zero (b ∷ s) h = omega arith
+sum_le (suc n) s h =
+    let l : length (take (suc n) s) ≡ suc n = length-take-le (suc n) s (omega arith) in
+    rw (take-suc s (suc n) 0 h, of_append, l, sum_le n s (omega arith), powers (suc n)) (omega arith)
+
+zeros_say : (n k : ℕ) → of_little_endian (drop n (replicate k 0)) ≡ 0
+unfolding of_little_endian
+zeros_say zero zero = refl
+zeros_say zero (suc k) = omega (arith, zeros_say zero k)
+zeros_say (suc n) zero = refl
+zeros_say (suc n) (suc k) = zeros_say n k
+
+-- of n bytes and the zeros that fill up eight
+padded : (n : ℕ) (s : List ℕ) → length s ≡ n → n ≤ 8 → from_le_bytes w64 (s ++ drop n (replicate 8 0)) ≡ of_little_endian s
+padded n s l h =
+    let e : length (s ++ drop n (replicate 8 0)) ≡ 8 = rw (length-append, length-drop, l) (omega arith) in
+    sum_le 7 (s ++ drop n (replicate 8 0)) (omega arith) ∙ rw (take_all 8 (s ++ drop n (replicate 8 0)) (omega arith), of_append, zeros_say) (omega arith)
+
 -- ---- loads
+
+-- the part of m from a that stands before the zeros
+pub load_padded : (n a : ℕ) (m part : List ℕ) → a + n ≤ length m → n ≤ 8 → part ≡ take (a + n - a) (drop a m)
+    → from_le_bytes w64 (part ++ drop n (replicate 8 0)) ≡ load n a m
+unfolding load
+load_padded n a m part h l e =
+    let k : a + n - a ≡ n = omega arith in
+    rw (e, k) (padded n (take n (drop a m)) (length-take-le n (drop a m) (rw length-drop (omega arith))) l)
 
 pub load_one : (a : ℕ) (m : List ℕ) → a + 1 ≤ length m → get_or m a 0 ≡ load 1 a m
 unfolding load of_little_endian

@@ -6,7 +6,7 @@
 ghost use Rattle.std.specs.Prelude.{◌≡◌};
 ghost use Rattle.answers.specs.Outcomes.{outcome};
 ghost use Rattle.run_calls.specs.Runs.{step_call, run_call, resume_call};
-ghost use Rattle.boards.specs.Boards.{board, masks};
+ghost use Rattle.boards.specs.Boards.{board, grant};
 ghost use Rattle.resume.specs.Resuming.{shared_bench};
 
 // One step. Refuses with 1, 2, 3, 16, 5, 14 and 15.
@@ -19,7 +19,7 @@ pub extern "C" fn phuyurik_step_masked(
     other: u64,
     word: &mut usize,
 ) -> u32
-    ensures { outcome result (word.new, shared_bench (masks own other) (board mem.new row.new) state.new) ≡ step_call (shared_bench (masks own other) (board mem.old row.old) state.old) word.old }
+    ensures { outcome result (word.new, shared_bench (grant own other) (board mem.new row.new) state.new) ≡ step_call (shared_bench (grant own other) (board mem.old row.old) state.old) word.old }
 {
     c_masked::phuyurik_step_masked(state, mem, row, own, other, word)
 }
@@ -36,7 +36,7 @@ pub extern "C" fn phuyurik_run_masked(
     retired: &mut u64,
     word: &mut usize,
 ) -> u32
-    ensures { outcome result ((retired.new, word.new), shared_bench (masks own other) (board mem.new row.new) state.new) ≡ run_call budget (shared_bench (masks own other) (board mem.old row.old) state.old) retired.old word.old }
+    ensures { outcome result ((retired.new, word.new), shared_bench (grant own other) (board mem.new row.new) state.new) ≡ run_call budget (shared_bench (grant own other) (board mem.old row.old) state.old) retired.old word.old }
 {
     c_masked::phuyurik_run_masked(state, mem, row, own, other, budget, retired, word)
 }
@@ -55,7 +55,7 @@ pub extern "C" fn phuyurik_run_slot_masked(
     retired: &mut u64,
     word: &mut usize,
 ) -> u32
-    ensures { outcome result ((retired.new, word.new), shared_bench (masks own other) (board mem.new row.new) slots.new) ≡ resume_call budget k (shared_bench (masks own other) (board mem.old row.old) slots.old) retired.old word.old }
+    ensures { outcome result ((retired.new, word.new), shared_bench (grant own other) (board mem.new row.new) slots.new) ≡ resume_call budget k (shared_bench (grant own other) (board mem.old row.old) slots.old) retired.old word.old }
 {
     c_masked::phuyurik_run_slot_masked(mem, row, slots, k, own, other, budget, retired, word)
 }

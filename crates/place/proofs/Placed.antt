@@ -2,9 +2,11 @@
 use Prim.Native.Nat.{ℕ, ◌+◌, ◌-◌, ◌/◌, ◌%◌, ◌<◌, ◌≤◌}
 use native.Mathlib.Omega.{arith}
 use mathlib.Core.Path.{◌≡◌, refl}
-use mathlib.Core.Bool.{Bool, true, false, cond, ◌&&◌, and-eq-true_iff}
+use mathlib.Core.Bool.{Bool, true, false, cond, ◌&&◌, and_assoc, and-eq-true_iff}
 use lib.Dec.{eqb, leb, ltb}
 use borrow.Author.Tests.{leb-true, ltb-true, lt-leb}
+use denote.Enum.Bare.{sameb}
+use Rattle.octets.specs.contracts.Width.{the_type}
 use Rattle.octets.specs.Widths.{width_bytes}
 use Rattle.octets.specs.declared.Width.{Width}
 use Rattle.octets.specs.declared.Width.TheVariants.{One, Two, Four}
@@ -30,12 +32,18 @@ in_window b s a e h =
     let t = (and-eq-true_iff (leb s a) (ltb a e)).0 ((and-eq-true_iff b (leb s a && ltb a e)).0 h).1 in
     (leb-true s a t.0, ltb-true a e t.1)
 
+-- an access is a word's if it is of four bytes
+pub is_word : (w : Width) → sameb the_type w Four ≡ eqb (width_bytes w) 4
+is_word One = refl
+is_word Two = refl
+is_word Four = refl
+
 -- an aligned access that memory does not hold, as `place_of` tests it
-pub beyond_memory : (n a size m : ℕ) (x y w : Bool) → x ≡ eqb (a % n) 0 → x ≡ true → m ≡ n → size < a + m → y ≡ eqb n 4
-    → (y && (leb window_start a && ltb a window_end)) ≡ w → cond w (Fuse (word a)) Outside ≡ placed n a size
+pub beyond_memory : (n a size m : ℕ) (y w : Bool) → eqb (a % n) 0 ≡ true → m ≡ n → size < a + m → y ≡ eqb n 4
+    → (y && leb window_start a && ltb a window_end) ≡ w → cond w (Fuse (word a)) Outside ≡ placed n a size
 unfolding placed
-beyond_memory n a size m x y w aligned t counted l words e =
-    rw (← aligned, t, lt-leb (a + n) size (omega arith), ← words, e)
+beyond_memory n a size m y w aligned counted l words e =
+    rw (aligned, lt-leb (a + n) size (omega arith), ← words, ← (and_assoc y (leb window_start a) (ltb a window_end)), e)
 
 -- ---- back from the place
 

@@ -7,8 +7,6 @@ use mathlib.Core.List.{List, [], ◌∷◌}
 use Prim.Native.Nat.{ℕ, zero, suc}
 use lib.Dec.{eqb}
 use Rattle.answers.specs.Outcomes.{outcome, decided}
-use Rattle.answers.specs.declared.Check.{Check}
-use Rattle.answers.specs.declared.Check.TheVariants.{Passed, Refused}
 use Rattle.word.proofs.Bools.{flag_le}
 use Rattle.word.specs.Bits.{low}
 use Rattle.fuses.specs.Row.{mark_at, word_stored, Row}
@@ -24,8 +22,10 @@ use Rattle.execute.specs.declared.Act.{Act}
 use Rattle.execute.proofs.Acts.{Comes, sets, loads, into_memory, into_row, zero_into_row, stops}
 use Rattle.engine.specs.Steps.{World, checked, asked, step_done, applied, stepped, ran, goes_on}
 use Rattle.engine.proofs.Walk.{walk}
-use Rattle.machine.specs.Entries.{run_given, no_run, run_entry}
+use Rattle.machine.specs.Entries.{run_given, run_entry}
 use Rattle.promises.specs.Burning.{stores_there, burns, stores_in, turns_in, Start, begun, row_after, if_run, stores_over, turns_over, StaysARow, BurntOnce, KeepsValue, KeepsValueInRun, BurntNotZero, NewlyBurnt, StoresTo, ZeroIsNoPulse, BurntStops, ClearingBurnsNothing}
+use Rattle.answers.specs.Checks.{Check}
+use Rattle.std.specs.Prelude.{Err, Ok}
 
 -- ---- one step
 
@@ -49,10 +49,10 @@ by_steps k (suc n) w r = let a = by_step k r (row_step w) in join a (by_steps k 
 
 -- a run, which a refusal keeps from changing the row
 by_run : (k : ℕ) (c : Check) (n : ℕ) (w : World) → Row w.board.row
-    → Leads k w.board.row (decided c (run_given n w) no_run w.board).lent.row (if_run c (stores_in n w)) (if_run c (turns_in k n w))
+    → Leads k w.board.row (decided c (run_given n w) Err w.board).lent.row (if_run c (stores_in n w)) (if_run c (turns_in k n w))
 unfolding decided
-by_run k Passed n w r = by_steps k n w r
-by_run k (Refused why) n w r = at_rest k w.board.row r
+by_run k (Ok u) n w r = by_steps k n w r
+by_run k (Err why) n w r = at_rest k w.board.row r
 
 by_starts : (k : ℕ) (es : List Start) (f : List ℕ) → Row f → Leads k f (row_after es f) (stores_over es f) (turns_over k es f)
 unfolding row_after stores_over turns_over
@@ -86,7 +86,7 @@ newly_burnt es f r = (by_starts 0 es f r).words
 -- ---- a store to a word
 
 module _ {w : World} {k v : ℕ} (s : StoresTo w k v) where
-  done : step_done w ≡ stored_to w.masks.own (Fuse k) s.o v s.a s.next w.board
+  done : step_done w ≡ stored_to w.grant.own (Fuse k) s.o v s.a s.next w.board
   unfolding performed
   done = rw (s.asks, s.there)
 

@@ -10,7 +10,7 @@ equal_parts = (
   λ A B a c b d e. (ap (λ o. o.answer) e, ap (λ o. o.lent) e),
   λ A B a c b d e. (ap (λ o. o.0) e, ap (λ o. o.1) e),
   λ m n f g e. (ap (λ o. o.mem) e, ap (λ o. o.row) e),
-  λ k l s t b c e. (ap (λ o. o.st) e, ap (λ o. o.board) e, ap (λ o. o.masks) e),
-  λ k l b c m n e. (ap (λ o. o.board) e, ap (λ o. o.slots) e, ap (λ o. o.masks) e),
+  λ k l s t b c e. (ap (λ o. o.st) e, ap (λ o. o.board) e, ap (λ o. o.grant) e),
+  λ k l b c m n e. (ap (λ o. o.board) e, ap (λ o. o.slots) e, ap (λ o. o.grant) e),
   λ p q x y c d s t a b e. (ap (λ o. o.pc) e, ap (λ o. o.x) e, ap (λ o. o.count) e, ap (λ o. o.stop) e, ap (λ o. o.address) e),
 )

@@ -1,4 +1,5 @@
 -- Both forms of an instruction are fetched as that instruction; what it asks for has its length only where the table says, and no access looks at where the next instruction is.
+use Rattle.std.specs.Prelude.{Ok, Err}
 use mathlib.Core.Path.{◌≡◌, refl, sym, ap, ◌∙◌}
 use mathlib.Core.Bool.{Bool, true, false, cond, not}
 use mathlib.Core.List.{List}
@@ -20,9 +21,7 @@ use Rattle.octets.specs.Bytes.{load}
 use Rattle.octets.proofs.Bytes.{load-add}
 use Rattle.place.specs.declared.Place.{Place}
 use Rattle.place.specs.declared.Place.TheVariants.{Memory, Fuse, Misaligned, Outside}
-use Rattle.fuses.specs.Row.{value_at, word_stored, owns}
-use Rattle.fuses.specs.declared.Stored.{Stored}
-use Rattle.fuses.specs.declared.Stored.TheVariants as F
+use Rattle.fuses.specs.Row.{Stored, value_at, word_stored, owns}
 use Rattle.alu.specs.Arithmetic.{sum, takes}
 use Rattle.state.specs.States.{register_of}
 use Rattle.boards.specs.Boards.{Board, board}
@@ -65,8 +64,8 @@ store-onward own (Fuse k) o v a m n b = by_mask (owns own k)
     in_row mine next = cond mine (outcome (of_stored (word_stored k v b.row).answer a next) (word_stored k v b.row).lent) (outcome (Halt (cause NotOwned a)) b.row)
 
     go : (r : Stored) → of_stored r a m ≡ ending_at m next_alone (of_stored r a n)
-    go F.Done = refl
-    go F.AlreadyBurnt = refl
+    go (Ok u) = refl
+    go (Err e) = refl
 
     by_mask : (mine : Bool) → outcome (in_row mine m).answer (board b.mem (in_row mine m).lent) ≡ onward m (outcome (in_row mine n).answer (board b.mem (in_row mine n).lent))
     by_mask true = ap (λ e. outcome e (board b.mem (word_stored k v b.row).lent)) (go (word_stored k v b.row).answer)

@@ -23,7 +23,7 @@ use Rattle.engine.proofs.Laws.{step_stopped, ran_stopped, retired_stopped, count
 use Rattle.machine.proofs.Entries.{one_step, run_accepted}
 use Rattle.promises.specs.Steps.{StepIsManual, RunIsManual, address_for, StopsCleanly, StaysFormed, StepIsRun, Counts, NoBudget, StaysStopped, PausedAtBudget}
 use Rattle.word.specs.Bits.{flag}
-use Rattle.machine.specs.Entries.{run_entry}
+use Rattle.machine.specs.Entries.{run_entry, last_state}
 use Rattle.promises.specs.Refusals.{Malformed}
 use Rattle.promises.proofs.Refusals.{accepted_passes}
 
@@ -71,14 +71,14 @@ stops_cleanly w p e =
     (why.stop, s.2 ∙ ap (λ a. onward w (state w.st.pc w.st.x w.st.count (stop_number why.stop) a) w.board) (located w why s.1))
 
 pub stays_formed : StaysFormed
-stays_formed b w z a = (rw (one_step w).1 (formed 1), formed b)
+stays_formed b w z a = (rw (one_step w).0 (formed 1), formed b)
   where
     well : (n : ℕ) → well_formed (ran n w).st ≡ true
     well n = (runnable_ran n w (passes_runnable w z (accepted_passes w a))).0.1
 
-    formed : (n : ℕ) → Malformed (run_entry n w).answer.state → ⊥
+    formed : (n : ℕ) → Malformed (last_state (run_entry n w).answer) → ⊥
     formed n m =
-        let e : (run_entry n w).answer.state ≡ (ran n w).st = ap (λ o. o.answer.state) (run_accepted n w (accepted_passes w a)) in
+        let e : last_state (run_entry n w).answer ≡ (ran n w).st = ap (λ o. last_state o.answer) (run_accepted n w (accepted_passes w a)) in
         omega (arith, ap flag (sym (well n) ∙ (malformed (ran n w).st).1 (subst Malformed e m)))
 
 pub step_is_run : StepIsRun

@@ -1,8 +1,6 @@
 -- Demand 3, second part: over any sequence of runs and new starts on one row that only runs change, a word turns from blank to burnt at most once and keeps its value, and the words newly burnt are as many as the completed stores of values other than zero into the row.
 -- Each statement is proved in proofs/Burning.antt.
-use Rattle.std.specs.Prelude.{◌≡◌, Bool, true, false, not, ◌&&◌, List, [], ◌∷◌, ℕ, zero, suc, ◌+◌, ◌≤◌, ◌<◌, eqb}
-use Rattle.answers.specs.declared.Check.{Check}
-use Rattle.answers.specs.declared.Check.TheVariants.{Passed, Refused}
+use Rattle.std.specs.Prelude.{◌≡◌, Bool, true, false, not, ◌&&◌, List, [], ◌∷◌, ℕ, zero, suc, ◌+◌, ◌≤◌, ◌<◌, eqb, Err, Ok}
 use Rattle.place.specs.declared.Place.{Place}
 use Rattle.place.specs.declared.Place.TheVariants.{Memory, Fuse, Misaligned, Outside}
 use Rattle.word.specs.Bits.{flag, low}
@@ -10,12 +8,14 @@ use Rattle.fuses.specs.Row.{value_at, mark_at, Row, row_checked, burnt_words, ow
 use Rattle.isa.specs.declared.StoreOp.{StoreOp}
 use Rattle.state.specs.declared.State.{State}
 use Rattle.state.specs.States.{advanced}
-use Rattle.boards.specs.Boards.{Board, board, Masks}
+use Rattle.boards.specs.Boards.{Board, board}
+use Rattle.boards.specs.declared.Grant.{Grant}
 use Rattle.access.specs.Accesses.{store_place}
 use Rattle.execute.specs.declared.Act.{Act}
 use Rattle.execute.specs.declared.Act.TheVariants.{Sets, Loads, Stores, Ends}
 use Rattle.engine.specs.Steps.{World, masked, onward, checked, asked, paused, completes, stepped, ran}
 use Rattle.machine.specs.Entries.{run_entry}
+use Rattle.answers.specs.Checks.{Check, passed}
 
 -- ---- completed stores of values other than zero into the row, counted on the steps
 
@@ -56,11 +56,11 @@ turns_in k (suc n) w = flag (turns k w) + turns_in k n (stepped w)
 pub record Start : Type 0 where
   pub st : State
   pub mem : List ℕ
-  pub masks : Masks
+  pub grant : Grant
   pub budget : ℕ
 
 abbrev pub begun : Start → List ℕ → World
-begun e f = masked e.masks e.st (board e.mem f)
+begun e f = masked e.grant e.st (board e.mem f)
 
 -- the row after them
 unfoldable pub row_after : List Start → List ℕ → List ℕ
@@ -69,8 +69,8 @@ row_after (e ∷ es) f = row_after es (run_entry e.budget (begun e f)).lent.row
 
 -- a refused run takes no steps
 abbrev pub if_run : Check → ℕ → ℕ
-if_run Passed n = n
-if_run (Refused r) n = 0
+if_run (Ok u) n = n
+if_run (Err r) n = 0
 
 unfoldable pub stores_over : List Start → List ℕ → ℕ
 stores_over [] f = 0
@@ -84,7 +84,7 @@ turns_over k (e ∷ es) f = if_run (checked (begun e f)) (turns_in k e.budget (b
 
 -- the row stays a row: what runs leave passes checks 2 and 3
 abbrev pub StaysARow : Type 0
-StaysARow = (es : List Start) (f : List ℕ) → Row f → Row (row_after es f) × (row_checked (row_after es f) Passed ≡ Passed)
+StaysARow = (es : List Start) (f : List ℕ) → Row f → Row (row_after es f) × (row_checked (row_after es f) passed ≡ passed)
 
 -- no word burnt twice: it turns from blank to burnt at most once, and not at all where it was burnt
 abbrev pub BurntOnce : Type 0
@@ -119,7 +119,7 @@ pub record StoresTo (w : World) (k v : ℕ) : Type 0 where
   pub goes : paused w ≡ true
   pub asks : asked w ≡ Stores o v a next
   pub there : store_place o a w.board ≡ Fuse k
-  pub mine : owns w.masks.own k ≡ true
+  pub mine : owns w.grant.own k ≡ true
 
 -- of 0 to a blank word: it completes, counts as a step and goes on to the next instruction, and leaves all else as it was, memory and row byte for byte
 abbrev pub ZeroIsNoPulse : Type 0

@@ -42,10 +42,10 @@ Returns returned rows = (n : ℕ) → ((returned ≡ n) × (n ≡ 0 → ⊥)) �
 abbrev pub CallsRefuse : Type 0
 CallsRefuse =
     ((b : ℕ) (h : Bench) (retired word : ℕ) → length h.slots ≡ 144
-    → Returns (run_call b h retired word).answer (start_rows h.board h.masks (record_rows h.slots))
+    → Returns (run_call b h retired word).answer (start_rows h.board h.grant (record_rows h.slots))
     × (((run_call b h retired word).answer ≡ 0 → ⊥) → ((run_call b h retired word).lent.0.0 ≡ retired) × ((run_call b h retired word).lent.1 ≡ h)))
     × ((h : Bench) (word : ℕ) → length h.slots ≡ 144
-    → Returns (step_call h word).answer (start_rows h.board h.masks (record_rows h.slots)) × (((step_call h word).answer ≡ 0 → ⊥) → (step_call h word).lent.1 ≡ h))
+    → Returns (step_call h word).answer (start_rows h.board h.grant (record_rows h.slots)) × (((step_call h word).answer ≡ 0 → ⊥) → (step_call h word).lent.1 ≡ h))
     × ((b k : ℕ) (h : Bench) (retired word : ℕ)
     → Returns (resume_call b k h retired word).answer (resume_rows k h)
     × (((resume_call b k h retired word).answer ≡ 0 → ⊥) → ((resume_call b k h retired word).lent.0.0 ≡ retired) × ((resume_call b k h retired word).lent.1 ≡ h)))
@@ -65,7 +65,7 @@ WriteCallRefuses =
 
 -- the state that a lent record says, on the board
 abbrev pub lent_world : Bench → World
-lent_world h = masked h.masks (state_of h.slots) h.board
+lent_world h = masked h.grant (state_of h.slots) h.board
 
 -- of a record that is not malformed, the call is the entry's run of its state: the number retired in its place, the board, and the last state's record; or the same refusal
 abbrev pub RunCallIsRun : Type 0

@@ -4,7 +4,8 @@ use Rattle.std.specs.Prelude.{◌≡◌, List, ℕ}
 use Rattle.answers.specs.Outcomes.{outcome}
 use Rattle.state.specs.declared.State.{State}
 use Rattle.state.specs.States.{state}
-use Rattle.boards.specs.Boards.{Board, board, Masks}
+use Rattle.boards.specs.Boards.{Board, board}
+use Rattle.boards.specs.declared.Grant.{Grant}
 use Rattle.engine.specs.Steps.{masked}
 use Rattle.resume.specs.Resuming.{shared_bench}
 
@@ -18,6 +19,6 @@ EqualParts =
     ((A B : Type 0) (a c : A) (b d : B) → outcome a b ≡ outcome c d → (a ≡ c) × (b ≡ d))
     × ((A B : Type 0) (a c : A) (b d : B) → ◌≡◌ {A = A × B} (a, b) (c, d) → (a ≡ c) × (b ≡ d))
     × ((m n f g : List ℕ) → board m f ≡ board n g → (m ≡ n) × (f ≡ g))
-    × ((k l : Masks) (s t : State) (b c : Board) → masked k s b ≡ masked l t c → (s ≡ t) × (b ≡ c) × (k ≡ l))
-    × ((k l : Masks) (b c : Board) (m n : List ℕ) → shared_bench k b m ≡ shared_bench l c n → (b ≡ c) × (m ≡ n) × (k ≡ l))
+    × ((k l : Grant) (s t : State) (b c : Board) → masked k s b ≡ masked l t c → (s ≡ t) × (b ≡ c) × (k ≡ l))
+    × ((k l : Grant) (b c : Board) (m n : List ℕ) → shared_bench k b m ≡ shared_bench l c n → (b ≡ c) × (m ≡ n) × (k ≡ l))
     × ((p q : ℕ) (x y : List ℕ) (c d s t a b : ℕ) → state p x c s a ≡ state q y d t b → (p ≡ q) × (x ≡ y) × (c ≡ d) × (s ≡ t) × (a ≡ b))

@@ -13,9 +13,9 @@ use Rattle.access.specs.declared.Effect.{Effect}
 use Rattle.access.specs.declared.Effect.TheVariants.{Next, Halt}
 use Rattle.access.specs.Accesses.{Done}
 use Rattle.execute.specs.Execution.{performed}
-use Rattle.fetch.specs.declared.Fetched.TheVariants.{Instruction}
 use Rattle.engine.specs.Steps.{act_fetched, act_at}
 use Rattle.promises_codes.specs.Instructions.{encodes, expands}
+use Rattle.std.specs.Prelude.{Ok}
 
 -- ---- where its length shows
 
@@ -57,7 +57,7 @@ but_for_length i x after d = outcome (ending_at after (shows i x) d.answer) d.le
 
 -- what the instruction i of len bytes at pc does, with the registers x on the board b, in a run with these own words
 abbrev pub effect_of : ℕ → Inst → ℕ → ℕ → List ℕ → Board → Done
-effect_of own i len pc x b = performed own (act_fetched (Instruction i len) pc x) b
+effect_of own i len pc x b = performed own (act_fetched (Ok (i, len)) pc x) b
 
 -- one instruction at one pc, with the same registers, memory and row, in any two lengths
 abbrev pub LengthOnly : Type 0

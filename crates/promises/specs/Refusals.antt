@@ -1,8 +1,7 @@
 -- Demand 1 for the machine, the part and the slots: each refusal exactly if its row of the paper's table holds and no earlier one does, every lent byte kept, and no other fact returned but the word that 3 tells.
 -- Each statement is proved in proofs/Refusals.antt.
-use Rattle.std.specs.Prelude.{◌≡◌, true, false, ◌↔◌, ◌⊎◌, List, ℕ, ◌+◌, ◌*◌, ◌%◌, ◌/◌, ◌≤◌, ◌<◌, length}
-use Rattle.std.proofs.Math.Option.{Option, none, some}
-use Rattle.answers.specs.Answer.{Answer, refused_with}
+use Rattle.std.specs.Prelude.{◌≡◌, true, false, ◌↔◌, ◌⊎◌, List, ℕ, ◌+◌, ◌*◌, ◌%◌, ◌/◌, ◌≤◌, ◌<◌, length, None, Option, Some}
+use Rattle.answers.specs.Answer.{Answer, refused_with, of_result}
 use Rattle.answers.specs.Checks.{word_told}
 use Rattle.answers.specs.Outcomes.{Outcome}
 use Rattle.answers.specs.Order.{refusal, no_refusal}
@@ -12,14 +11,13 @@ use Rattle.answers.specs.Entries.{Refuses, Keeps, Silent, SilentButWord}
 use Rattle.octets.specs.Bytes.{load}
 use Rattle.fuses.specs.Row.{keeps_rules, owns}
 use Rattle.state.specs.declared.State.{State}
-use Rattle.boards.specs.Boards.{Board, longest_memory, Masks}
+use Rattle.boards.specs.Boards.{Board, longest_memory}
+use Rattle.boards.specs.declared.Grant.{Grant}
 use Rattle.engine.specs.Steps.{World}
-use Rattle.machine.specs.declared.Stepped.{Stepped}
-use Rattle.machine.specs.declared.Ran.{Ran}
-use Rattle.machine.specs.Entries.{step_entry, of_stepped, run_entry, of_ran}
+use Rattle.machine.specs.Entries.{step_entry, run_entry, of_ran}
 use Rattle.records.specs.Records.{state_of}
-use Rattle.slots.specs.Slots.{slot_at, write_entry, of_write, read_entry, of_read_back}
-use Rattle.resume.specs.Resuming.{Bench, resume_entry, of_resumed, word_resumed}
+use Rattle.slots.specs.Slots.{slot_at, write_entry, read_entry}
+use Rattle.resume.specs.Resuming.{Bench, resume_entry}
 
 -- ---- the rows of the table
 
@@ -36,7 +34,7 @@ abbrev pub RecordBreaks : Board → Type 0
 RecordBreaks b = (k : ℕ) × (k < 64) × (keeps_rules k b.row ≡ false)
 
 -- 16: masks that share a bit
-abbrev pub Shared : Masks → Type 0
+abbrev pub Shared : Grant → Type 0
 Shared m = (k : ℕ) × (owns m.own k ≡ true) × (owns m.other k ≡ true)
 
 -- 4: slot buffer not a multiple of 144, or no such slot
@@ -69,7 +67,7 @@ RecordMalformed r = Malformed (state_of r) ⊎ (load 3 137 r ≡ 0 → ⊥)
 -- ---- the order of the entries
 
 -- the rows of memory, fuse row and masks, then those that follow
-abbrev pub start_rows : Board → Masks → (ℕ → Type 0) → ℕ → Type 0
+abbrev pub start_rows : Board → Grant → (ℕ → Type 0) → ℕ → Type 0
 start_rows b m later = refusal 1 (TooLong b) (refusal 2 (NotARow b) (refusal 3 (RecordBreaks b) (refusal 16 (Shared m) later)))
 
 -- those of a state, and of a record
@@ -81,7 +79,7 @@ record_rows r = refusal 5 (OddPc (state_of r)) (refusal 14 (NoStop (state_of r))
 
 -- those of step and run
 abbrev pub machine_rows : World → ℕ → Type 0
-machine_rows w = start_rows w.board w.masks (state_rows w.st)
+machine_rows w = start_rows w.board w.grant (state_rows w.st)
 
 abbrev pub write_rows : ℕ → State → List ℕ → ℕ → Type 0
 write_rows k s slots = refusal 4 (NoSlot k slots) (state_rows s)
@@ -90,38 +88,38 @@ abbrev pub read_rows : ℕ → List ℕ → ℕ → Type 0
 read_rows k slots = refusal 4 (NoSlot k slots) (record_rows (slot_at k slots))
 
 abbrev pub resume_rows : ℕ → Bench → ℕ → Type 0
-resume_rows k h = start_rows h.board h.masks (read_rows k h.slots)
+resume_rows k h = start_rows h.board h.grant (read_rows k h.slots)
 
 -- ---- exactly if
 
 abbrev pub StepRefuses : Type 0
-StepRefuses = (w : World) → Refuses of_stepped (step_entry w) (machine_rows w)
+StepRefuses = (w : World) → Refuses of_result (step_entry w) (machine_rows w)
 
 abbrev pub RunRefuses : Type 0
 RunRefuses = (b : ℕ) (w : World) → Refuses of_ran (run_entry b w) (machine_rows w)
 
 abbrev pub WriteRefuses : Type 0
-WriteRefuses = (k : ℕ) (s : State) (slots : List ℕ) → Refuses of_write (write_entry k s slots) (write_rows k s slots)
+WriteRefuses = (k : ℕ) (s : State) (slots : List ℕ) → Refuses of_result (write_entry k s slots) (write_rows k s slots)
 
 abbrev pub ReadRefuses : Type 0
-ReadRefuses = (k : ℕ) (slots : List ℕ) → Refuses of_read_back (read_entry k slots) (read_rows k slots)
+ReadRefuses = (k : ℕ) (slots : List ℕ) → Refuses of_result (read_entry k slots) (read_rows k slots)
 
 abbrev pub ResumeRefuses : Type 0
-ResumeRefuses = (b k : ℕ) (h : Bench) → Refuses of_resumed (resume_entry b k h) (resume_rows k h)
+ResumeRefuses = (b k : ℕ) (h : Bench) → Refuses of_result (resume_entry b k h) (resume_rows k h)
 
 -- ---- every lent byte kept
 
 abbrev pub StepKeeps : Type 0
-StepKeeps = (w : World) → Keeps of_stepped (step_entry w) w.board
+StepKeeps = (w : World) → Keeps of_result (step_entry w) w.board
 
 abbrev pub RunKeeps : Type 0
 RunKeeps = (b : ℕ) (w : World) → Keeps of_ran (run_entry b w) w.board
 
 abbrev pub WriteKeeps : Type 0
-WriteKeeps = (k : ℕ) (s : State) (slots : List ℕ) → Keeps of_write (write_entry k s slots) slots
+WriteKeeps = (k : ℕ) (s : State) (slots : List ℕ) → Keeps of_result (write_entry k s slots) slots
 
 abbrev pub ResumeKeeps : Type 0
-ResumeKeeps = (b k : ℕ) (h : Bench) → Keeps of_resumed (resume_entry b k h) h
+ResumeKeeps = (b k : ℕ) (h : Bench) → Keeps of_result (resume_entry b k h) h
 
 -- ---- the word that 3 tells
 
@@ -131,27 +129,27 @@ LowestBroken b k = (k < 64) × (keeps_rules k b.row ≡ false) × ((j : ℕ) →
 
 -- of a board that is refused with 3, that word; with any other number none
 abbrev pub TellsLowest : Board → ℕ → Option ℕ → Type 0
-TellsLowest b n told = (n ≡ 3 → (k : ℕ) × (told ≡ some k) × LowestBroken b k) × ((n ≡ 3 → ⊥) → told ≡ none)
+TellsLowest b n told = (n ≡ 3 → (k : ℕ) × (told ≡ Some k) × LowestBroken b k) × ((n ≡ 3 → ⊥) → told ≡ None)
 
 abbrev pub LowestWord : Type 0
 LowestWord =
-    ((w : World) (n : ℕ) → of_stepped (step_entry w).answer ≡ refused_with n → TellsLowest w.board n (word_told (step_entry w).answer.check))
-    × ((b : ℕ) (w : World) (n : ℕ) → of_ran (run_entry b w).answer ≡ refused_with n → TellsLowest w.board n (word_told (run_entry b w).answer.check))
-    × ((b k : ℕ) (h : Bench) (n : ℕ) → of_resumed (resume_entry b k h).answer ≡ refused_with n → TellsLowest h.board n (word_resumed (resume_entry b k h).answer))
+    ((w : World) (n : ℕ) → of_result (step_entry w).answer ≡ refused_with n → TellsLowest w.board n (word_told (step_entry w).answer))
+    × ((b : ℕ) (w : World) (n : ℕ) → of_ran (run_entry b w).answer ≡ refused_with n → TellsLowest w.board n (word_told (run_entry b w).answer))
+    × ((b k : ℕ) (h : Bench) (n : ℕ) → of_result (resume_entry b k h).answer ≡ refused_with n → TellsLowest h.board n (word_told (resume_entry b k h).answer))
 
 -- of all refusals, 3 tells a word and no other does
 abbrev pub OnlyThreeTells : Type 0
-OnlyThreeTells = (r : Refusal) → (number_of r ≡ 3) ↔ ((k : ℕ) × (word_of r ≡ some k))
+OnlyThreeTells = (r : Refusal) → (number_of r ≡ 3) ↔ ((k : ℕ) × (word_of r ≡ Some k))
 
 -- ---- a refusal returns its number and no other fact; where a row is lent, but for that word
 
 abbrev pub NoOtherFact : Type 0
 NoOtherFact =
-    SilentButWord of_stepped (λ (r : Stepped). word_told r.check) step_entry
-    × SilentButWord of_ran (λ (r : Ran). word_told r.check) (λ (i : ℕ × World). run_entry i.0 i.1)
-    × Silent of_write (λ (i : ℕ × State × List ℕ). write_entry i.0 i.1 i.2)
-    × Silent of_read_back (λ (i : ℕ × List ℕ). read_entry i.0 i.1)
-    × SilentButWord of_resumed word_resumed (λ (i : ℕ × ℕ × Bench). resume_entry i.0 i.1 i.2)
+    SilentButWord of_result word_told step_entry
+    × SilentButWord of_ran word_told (λ (i : ℕ × World). run_entry i.0 i.1)
+    × Silent of_result (λ (i : ℕ × State × List ℕ). write_entry i.0 i.1 i.2)
+    × Silent of_result (λ (i : ℕ × List ℕ). read_entry i.0 i.1)
+    × SilentButWord of_result word_told (λ (i : ℕ × ℕ × Bench). resume_entry i.0 i.1 i.2)
 
 -- ---- what is accepted is what was accepted when 5 stood for 5, 14 and 15, but that masks share no bit, and that there is a stop 11
 
@@ -187,8 +185,8 @@ AcceptedIf read o Holds = ((n : ℕ) → read o.answer ≡ refused_with n → �
 
 abbrev pub AcceptedAsBefore : Type 0
 AcceptedAsBefore =
-    ((w : World) → AcceptedIf of_stepped (step_entry w) (BoardBefore w.board × (Shared w.masks → ⊥) × StateBefore w.st))
-    × ((b : ℕ) (w : World) → AcceptedIf of_ran (run_entry b w) (BoardBefore w.board × (Shared w.masks → ⊥) × StateBefore w.st))
-    × ((k : ℕ) (s : State) (slots : List ℕ) → AcceptedIf of_write (write_entry k s slots) (SlotBefore k slots × StateBefore s))
-    × ((k : ℕ) (slots : List ℕ) → AcceptedIf of_read_back (read_entry k slots) (SlotBefore k slots × RecordBefore (slot_at k slots)))
-    × ((b k : ℕ) (h : Bench) → AcceptedIf of_resumed (resume_entry b k h) (BoardBefore h.board × (Shared h.masks → ⊥) × (SlotBefore k h.slots × RecordBefore (slot_at k h.slots))))
+    ((w : World) → AcceptedIf of_result (step_entry w) (BoardBefore w.board × (Shared w.grant → ⊥) × StateBefore w.st))
+    × ((b : ℕ) (w : World) → AcceptedIf of_ran (run_entry b w) (BoardBefore w.board × (Shared w.grant → ⊥) × StateBefore w.st))
+    × ((k : ℕ) (s : State) (slots : List ℕ) → AcceptedIf of_result (write_entry k s slots) (SlotBefore k slots × StateBefore s))
+    × ((k : ℕ) (slots : List ℕ) → AcceptedIf of_result (read_entry k slots) (SlotBefore k slots × RecordBefore (slot_at k slots)))
+    × ((b k : ℕ) (h : Bench) → AcceptedIf of_result (resume_entry b k h) (BoardBefore h.board × (Shared h.grant → ⊥) × (SlotBefore k h.slots × RecordBefore (slot_at k h.slots))))

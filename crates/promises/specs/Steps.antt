@@ -2,15 +2,15 @@
 -- Each statement is proved in proofs/Steps.antt.
 use Rattle.std.specs.Prelude.{◌≡◌, true, false, cond, ◌↔◌, ℕ, ◌+◌, ◌≤◌, leb, length}
 use Rattle.answers.specs.Stops.{stop_number}
-use Rattle.answers.specs.Answer.{given}
+use Rattle.answers.specs.Answer.{given, of_result}
 use Rattle.answers.specs.declared.Stop.{Stop}
 use Rattle.answers.specs.declared.Stop.TheVariants as S
 use Rattle.alu.specs.Arithmetic.{sum}
-use Rattle.state.specs.States.{state}
+use Rattle.state.specs.States.{state, state_in}
 use Rattle.execute.specs.declared.Act.{Act}
 use Rattle.execute.specs.declared.Act.TheVariants.{Sets, Loads, Stores, Ends}
 use Rattle.engine.specs.Steps.{World, onward, Sized, asked, paused, stepped, completes, ran, retired}
-use Rattle.machine.specs.Entries.{step_entry, of_stepped, run_entry, of_ran}
+use Rattle.machine.specs.Entries.{step_entry, run_entry, of_ran, state_ran, last_state}
 use Rattle.promises.specs.Refusals.{Malformed, machine_rows}
 
 -- no row of the table holds
@@ -19,7 +19,7 @@ Accepted w = (n : ℕ) → machine_rows w n → ⊥
 
 -- an accepted step is the manual's step: state and board
 abbrev pub StepIsManual : Type 0
-StepIsManual = (w : World) → Accepted w → (of_stepped (step_entry w).answer ≡ given (stepped w).st) × ((step_entry w).lent ≡ (stepped w).board)
+StepIsManual = (w : World) → Accepted w → (of_result (step_entry w).answer ≡ given (stepped w).st) × ((step_entry w).lent ≡ (stepped w).board)
 
 -- an accepted run is so many of the manual's steps, and answers how many of them completed
 abbrev pub RunIsManual : Type 0
@@ -60,14 +60,13 @@ StopsCleanly =
 abbrev pub StaysFormed : Type 0
 StaysFormed =
     (b : ℕ) (w : World) → Sized w → Accepted w
-    → (Malformed (step_entry w).answer.state → ⊥) × (Malformed (run_entry b w).answer.state → ⊥)
+    → (Malformed (state_in (step_entry w).answer) → ⊥) × (Malformed (last_state (run_entry b w).answer) → ⊥)
 
--- a step is a run of budget 1, refused or not: check, state and board
+-- a step is a run of budget 1, refused or not: state or refusal, and board
 abbrev pub StepIsRun : Type 0
 StepIsRun =
     (w : World)
-    → ((step_entry w).answer.check ≡ (run_entry 1 w).answer.check)
-    × ((step_entry w).answer.state ≡ (run_entry 1 w).answer.state)
+    → ((step_entry w).answer ≡ state_ran (run_entry 1 w).answer)
     × ((step_entry w).lent ≡ (run_entry 1 w).lent)
 
 -- a run retires at most the budget, and the count grows by the number retired

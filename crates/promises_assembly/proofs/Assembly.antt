@@ -6,6 +6,7 @@ use Prim.Native.Nat.{ℕ, ◌≤◌, ◌<◌}
 use native.Mathlib.Omega.{arith}
 use borrow.Author.Tests.{le-leb, lt-leb, ne_eqb}
 use lib.ListN.{length, drop, length-append, length-drop}
+use Rattle.std.specs.Prelude.{Ok}
 use lib.Seq.{drop_at}
 use Rattle.word.proofs.Bools.{below}
 use Rattle.answers.specs.Answer.{given, refused}
@@ -20,9 +21,8 @@ use Rattle.answers.proofs.Entries.{exactly, keeps_lent}
 use Rattle.ascii.specs.Rooms.{fronted}
 use Rattle.octets.proofs.Bytes.{length_le}
 use Rattle.assembly.specs.Assembly.{Assembly, output, fault, assembled}
-use Rattle.assembler.specs.declared.Assembled.{Assembled}
-use Rattle.assembler.specs.declared.Assembled.TheVariants.{Length, Refused}
-use Rattle.assembler.specs.Entry.{output_checked, placed_at, entry_of, assemble_entry, of_assembled}
+use Rattle.assembler.specs.declared.LineFault.{LineFault}
+use Rattle.assembler.specs.Entry.{Assembled, refused_line, output_checked, placed_at, entry_of, assemble_entry, of_assembled}
 use Rattle.assembler.proofs.Lines.{output-short}
 use Rattle.c_assembly.specs.Assembly.{fault_of}
 use Rattle.promises_assembly.specs.Assembly.{LineGives, word, half, LinesGive, none, line, Fills, Assembles, WordBack, HalfBack, LinesBack, OnlyLines, EmptyText, unreadable, wrong_number, no_half, FirstFault, here, later, NoFault, RoomSuffices, ShortRoom, RefusedAt, RefusesAt, OneFault, Faulty, AssembleRefuses, AssembleKeeps, RestStays, PlacesTold}
@@ -32,16 +32,16 @@ use Rattle.promises_assembly.proofs.Lines.{lines_give, fault_refuses, Told, told
 
 module _ (room : List ℕ) where
   -- the output fits
-  fitting : (out : List ℕ) → length out ≤ length room → entry_of (output out) room ≡ outcome (Length (length out)) (fronted out room)
+  fitting : (out : List ℕ) → length out ≤ length room → entry_of (output out) room ≡ outcome (Ok (length out)) (fronted out room)
   unfolding decided
   fitting out h = rw (le-leb (length out) (length room) h)
 
   -- or it does not
-  lacking : (out : List ℕ) → length room < length out → entry_of (output out) room ≡ outcome (Refused R.OutputRoom 0 0) room
+  lacking : (out : List ℕ) → length room < length out → entry_of (output out) room ≡ outcome (refused_line R.OutputRoom 0 0) room
   unfolding decided
   lacking out h = rw (lt-leb (length out) (length room) h)
 
-  faulting : (r : Refusal) (k p : ℕ) → entry_of (fault r k p) room ≡ outcome (Refused r k p) room
+  faulting : (r : Refusal) (k p : ℕ) → entry_of (fault r k p) room ≡ outcome (refused_line r k p) room
   unfolding decided
   faulting r k p = refl
 
@@ -109,8 +109,10 @@ rest_stays text room n e =
 
 -- ---- refusals
 
-refused-same : {r s : Refusal} {j k p q : ℕ} → Refused r j p ≡ Refused s k q → (number_of r ≡ number_of s) × (j ≡ k) × (p ≡ q)
-refused-same {r} {s} e = (ap number_of (let z : r ≡ s = cc in z), cc, cc)
+refused-same : {r s : Refusal} {j k p q : ℕ} → refused_line r j p ≡ refused_line s k q → (number_of r ≡ number_of s) × (j ≡ k) × (p ≡ q)
+refused-same {r} {s} {j} {k} {p} {q} e =
+    let z : ◌≡◌ {A = LineFault} (record { refusal = r; line = j; byte = p }) (record { refusal = s; line = k; byte = q }) = cc in
+    (ap (λ (f : LineFault). number_of f.refusal) z, ap (λ (f : LineFault). f.line) z, ap (λ (f : LineFault). f.byte) z)
 
 fault-same : {r s : Refusal} {j k p q : ℕ} → fault r j p ≡ fault s k q → (number_of r ≡ number_of s) × (j ≡ k) × (p ≡ q)
 fault-same {r} {s} e = (ap number_of (let z : r ≡ s = cc in z), cc, cc)
@@ -156,7 +158,7 @@ refuses_at text room n k p = (λ h. to (assembled text) (told text) h, from)
         (a.refusal, ap (λ (a : Assembly). (entry_of a room).answer) a.is ∙ ap (λ (o : _). o.answer) (faulting room a.refusal k p), a.number)
     from (inr ((out, g, l), e, d, c)) = (
       R.OutputRoom,
-      ap (λ (a : Assembly). (entry_of a room).answer) (lines_give g) ∙ ap (λ (o : _). o.answer) (lacking room out l) ∙ (λ i. Refused R.OutputRoom (sym d i) (sym c i)),
+      ap (λ (a : Assembly). (entry_of a room).answer) (lines_give g) ∙ ap (λ (o : _). o.answer) (lacking room out l) ∙ (λ i. refused_line R.OutputRoom (sym d i) (sym c i)),
       sym e,
     )
 
@@ -227,7 +229,7 @@ places_told text room len j q = go (assembled text) (told text)
     call : Outcome Assembled (List ℕ) → Outcome ℕ ((ℕ × (ℕ × ℕ)) × List ℕ)
     call o = called_telling of_assembled fault_of len (j, q) o
 
-    of-line : (r : Refusal) (k p : ℕ) → (number_of r ≡ 13 → ⊥) → call (outcome (Refused r k p) room) ≡ outcome (number_of r) ((len, (k, p)), room)
+    of-line : (r : Refusal) (k p : ℕ) → (number_of r ≡ 13 → ⊥) → call (outcome (refused_line r k p) room) ≡ outcome (number_of r) ((len, (k, p)), room)
     of-line r k p h = rw (ne_eqb (number_of r) 13 h)
 
     go : (a : Assembly) → Told text a → let c = call (entry_of a room) in

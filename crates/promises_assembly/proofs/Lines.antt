@@ -10,8 +10,6 @@ use Rattle.answers.specs.Refusals.{number_of}
 use Rattle.answers.specs.declared.Refusal.{Refusal}
 use Rattle.answers.specs.declared.Refusal.TheVariants as R
 use Rattle.isa.specs.declared.Inst.{Inst}
-use Rattle.isa.specs.declared.Shortened.{Shortened}
-use Rattle.isa.specs.declared.Shortened.TheVariants as S
 use Rattle.isa.specs.Answers.{of_decoded}
 use Rattle.isa.specs.Decoding.{decoded}
 use Rattle.isa.specs.Encoding.{in_range, word_of}
@@ -30,6 +28,9 @@ use Rattle.assembly.proofs.Steps.{nothing, line_then, line-faulty}
 use Rattle.assembler.proofs.Lines.{by_lines}
 use Rattle.promises_codes.proofs.Readings.{legal-is}
 use Rattle.promises_assembly.specs.Assembly.{Smallest, LineGives, word, half, LinesGive, none, line, AtFault, unreadable, wrong_number, no_half, FirstFault, here, later}
+use Rattle.isa.specs.declared.Unshortened.TheVariants as U
+use Rattle.isa.specs.declared.Unshortened.{Unshortened}
+use Rattle.std.specs.Prelude.{Err, Ok, Result}
 
 -- ---- one line
 
@@ -55,8 +56,8 @@ coded i g false bs rest e =
     subst (LineGives (text_of i ++ (10 ∷ []))) z (word (word_of i) i (word_lt i) (ap of_decoded (decode_encode i g)))
 coded i g true bs rest e = go (shortened i) refl e
   where
-    go : (s : Shortened) → shortened i ≡ s → half_of s rest ≡ gives bs rest → LineGives (short_text_of i ++ (10 ∷ [])) bs
-    go (S.Half h) q e =
+    go : (s : Result ℕ Unshortened) → shortened i ≡ s → half_of s rest ≡ gives bs rest → LineGives (short_text_of i ++ (10 ∷ [])) bs
+    go (Ok h) q e =
         let z : little_endian 2 h ≡ bs = cc in
         let s = shortened-is i h q in
         let x : expands_to h = ap of_decoded s.stands_for in
@@ -64,10 +65,10 @@ coded i g true bs rest e = go (shortened i) refl e
       where
         expands_to : ℕ → Type 0
         expands_to h = of_decoded (expanded h) ≡ given i
-    go S.OutOfRange q e =
+    go (Err U.OutOfRange) q e =
         let z : ◌≡◌ {A = ℕ} 0 1 = cc in
         absurd (omega arith)
-    go S.NoShortForm q e =
+    go (Err U.NoShortForm) q e =
         let z : ◌≡◌ {A = ℕ} 0 1 = cc in
         absurd (omega arith)
 

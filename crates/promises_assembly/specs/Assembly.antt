@@ -11,9 +11,7 @@ use Rattle.isa.specs.declared.Inst.{Inst}
 use Rattle.octets.specs.Bytes.{little_endian}
 use Rattle.text.specs.Text.{text_of, short_text_of}
 use Rattle.assembly.specs.Places.{UnreadableAt, WrongNumberAt, NoHalfAt}
-use Rattle.assembler.specs.declared.Assembled.{Assembled}
-use Rattle.assembler.specs.declared.Assembled.TheVariants.{Refused}
-use Rattle.assembler.specs.Entry.{assemble_entry, of_assembled}
+use Rattle.assembler.specs.Entry.{Assembled, refused_line, assemble_entry, of_assembled}
 use Rattle.c_assembly.specs.Assembly.{assemble_call}
 use Rattle.promises_codes.specs.Instructions.{decodes, expands}
 
@@ -89,7 +87,7 @@ abbrev pub ShortRoom : List ℕ → List ℕ → Type 0
 ShortRoom text room = (out : List ℕ) × LinesGive text out × (length room < length out)
 
 abbrev pub RefusedAt : Assembled → ℕ → ℕ → ℕ → Type 0
-RefusedAt a n k p = (r : Refusal) × (a ≡ Refused r k p) × (number_of r ≡ n)
+RefusedAt a n k p = (r : Refusal) × (a ≡ refused_line r k p) × (number_of r ≡ n)
 
 -- the first line at fault decides; 13 has line 0 and byte 0
 abbrev pub RefusesAt : Type 0

@@ -22,6 +22,8 @@ use Rattle.execute.specs.Execution.{act_of, performed}
 use Rattle.fetch.specs.Fetching.{fetched_with, fetched}
 use Rattle.engine.specs.Steps.{act_fetched, asked, applied, paused, stepped, ran, retired}
 use Rattle.machine.specs.declared.Ran.{Ran}
+use Rattle.answers.specs.declared.Refusal.{Refusal}
+use Rattle.std.specs.Prelude.{Result}
 use Rattle.machine.specs.Entries.{run_entry}
 use Rattle.machine.proofs.Entries.{run_ends}
 use Rattle.promises_cards.specs.Cards.{CardsHold, end_of, start, blank, image, spent}
@@ -39,7 +41,7 @@ first_run = run_ends 4 96 (start image blank) stops.0
 
 second_run : run_entry 100 (start image spent) ≡ run_entry 3 (start image spent-row)
 second_run =
-    ap (λ f. run_entry 100 (start image f)) (ap (λ (o : Outcome Ran Board). o.lent.row) first_run ∙ stops.1)
+    ap (λ f. run_entry 100 (start image f)) (ap (λ (o : Outcome (Result Ran Refusal) Board). o.lent.row) first_run ∙ stops.1)
     ∙ run_ends 3 97 (start image spent-row) stops.2
 
 pub cards_hold : CardsHold

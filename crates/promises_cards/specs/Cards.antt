@@ -1,8 +1,8 @@
 -- The bench cards, as rows of one table under one claim.
-use Rattle.std.specs.Prelude.{◌≡◌, List, [], ◌∷◌, ◌++◌, ℕ, ◌-◌, ◌^◌, replicate}
+use Rattle.std.specs.Prelude.{◌≡◌, List, [], ◌∷◌, ◌++◌, ℕ, ◌-◌, ◌^◌, replicate, Result, Ok, Err}
 use Rattle.answers.specs.Answer.{Answer, given, refused}
+use Rattle.answers.specs.declared.Refusal.{Refusal}
 use Rattle.answers.specs.declared.Refusal.TheVariants.{NoInstruction}
-use Rattle.answers.specs.Checks.{of_check}
 use Rattle.answers.specs.Outcomes.{Outcome}
 use Rattle.isa.specs.declared.Reg.{Reg}
 use Rattle.isa.specs.declared.Inst.{Inst}
@@ -38,10 +38,16 @@ pub record End : Type 0 where
 abbrev pub end : ℕ → ℕ → ℕ → ℕ → ℕ → ℕ → Answer End
 end retired stop address pc mark value = given (record { retired = retired; stop = stop; address = address; pc = pc; mark = mark; value = value })
 
-abbrev pub end_of : Outcome Ran Board → Answer End
-end_of o =
-    of_check o.answer.check
-    (record { retired = o.answer.retired; stop = o.answer.state.stop; address = o.answer.state.address; pc = o.answer.state.pc; mark = mark_at 0 o.lent.row; value = value_at 0 o.lent.row })
+abbrev pub end_at : Ran → List ℕ → End
+end_at r f =
+    record { retired = r.retired; stop = r.state.stop; address = r.state.address; pc = r.state.pc; mark = mark_at 0 f; value = value_at 0 f }
+
+abbrev pub ended : Result Ran Refusal → List ℕ → Answer End
+ended (Ok r) f = given (end_at r f)
+ended (Err r) f = refused r
+
+abbrev pub end_of : Outcome (Result Ran Refusal) Board → Answer End
+end_of o = ended o.answer o.lent.row
 
 -- a recipe's image started on a row
 abbrev pub start : List ℕ → List ℕ → World

@@ -12,27 +12,27 @@ use Rattle.word.proofs.Bools.{below}
 use Rattle.word.proofs.Sweep.{every, at}
 use Rattle.answers.specs.Answer.{refused_with}
 use Rattle.answers.proofs.Order.{apart}
-use Rattle.isa.specs.declared.Decoded.{Decoded}
-use Rattle.isa.specs.declared.Decoded.TheVariants.{Legal, Illegal}
 use Rattle.isa.specs.Rvc.{expanded}
 use Rattle.isa.specs.Answers.{of_decoded}
 use Rattle.promises_codes.specs.Halfwords.{illegal_half}
 use Rattle.promises_codes.specs.Instructions.{expands}
+use Rattle.isa.specs.declared.Inst.{Inst}
+use Rattle.std.specs.Prelude.{None, Option, Some}
 
 -- ---- the tables and the list, at one halfword
 
-abbrev agree : Decoded → Bool → Bool
-agree (Legal i) listed = not listed
-agree Illegal listed = listed
+abbrev agree : Option Inst → Bool → Bool
+agree (Some i) listed = not listed
+agree None listed = listed
 
 abbrev test : ℕ → Bool
 test h = agree (expanded h) (illegal_half h)
 
-exactly_if : (d : Decoded) (listed : Bool) → T (agree d listed) → (of_decoded d ≡ refused_with 7) ↔ (listed ≡ true)
-exactly_if (Legal i) true t = absurd t
-exactly_if (Legal i) false t = (λ e. absurd (apart e), λ e. absurd (false≢true e))
-exactly_if Illegal true t = (λ e. refl, λ e. refl)
-exactly_if Illegal false t = absurd t
+exactly_if : (d : Option Inst) (listed : Bool) → T (agree d listed) → (of_decoded d ≡ refused_with 7) ↔ (listed ≡ true)
+exactly_if (Some i) true t = absurd t
+exactly_if (Some i) false t = (λ e. absurd (apart e), λ e. absurd (false≢true e))
+exactly_if None true t = (λ e. refl, λ e. refl)
+exactly_if None false t = absurd t
 
 -- ---- cases of a number: n of them, from a on
 

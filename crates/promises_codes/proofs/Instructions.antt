@@ -11,10 +11,6 @@ use Rattle.word.proofs.Rows.{found_passing}
 use Rattle.answers.specs.Answer.{given}
 use Rattle.isa.specs.declared.Inst.{Inst}
 use Rattle.isa.specs.declared.Parts.{Parts}
-use Rattle.isa.specs.declared.Built.TheVariants.{Instruction, OutOfRange}
-use Rattle.isa.specs.declared.Decoded.TheVariants.{Illegal}
-use Rattle.isa.specs.declared.Encoded.TheVariants as E
-use Rattle.isa.specs.declared.Shortened.TheVariants as S
 use Rattle.isa.specs.Operations.{parts_of, same_parts}
 use Rattle.isa.specs.Building.{inst_of, built, registers_ok}
 use Rattle.isa.specs.Decoding.{decoded, opcodes}
@@ -33,6 +29,8 @@ use Rattle.promises_codes.specs.Instructions.{builds, decodes, Registers, Decode
 use Rattle.answers.proofs.Order.{apart, same-value}
 use Rattle.promises_codes.proofs.Readings.{legal-is, bits_is, out_is, half_is, eight_is, nine_is, seven, eight}
 use Rattle.promises_codes.proofs.Halfwords.{exactly_listed}
+use Rattle.isa.specs.declared.Unshortened.TheVariants as U
+use Rattle.std.specs.Prelude.{Err, None, Ok, Some}
 
 -- ---- round trips of the words, and refusals
 
@@ -58,17 +56,17 @@ expand_refuses = exactly_listed
 pub encode_refuses : EncodeRefuses
 encode_refuses i = (λ e. go (in_range i) (out_is (encoded i) 8 e), λ e. rw e)
   where
-    go : (b : Bool) → cond b (E.Bits (word_of i)) E.OutOfRange ≡ E.OutOfRange → b ≡ false
+    go : (b : Bool) → cond b (Some (word_of i)) None ≡ None → b ≡ false
     go true e = let z : ◌≡◌ {A = ℕ} 0 1 = cc in absurd (omega arith)
     go false e = refl
 
 -- the shortener refuses with 8 first
-out_of_range : (a b : Bool) (h : ℕ) → cond a (cond b (S.Half h) S.NoShortForm) S.OutOfRange ≡ S.OutOfRange → a ≡ false
+out_of_range : (a b : Bool) (h : ℕ) → cond a (cond b (Ok h) (Err U.NoShortForm)) (Err U.OutOfRange) ≡ Err U.OutOfRange → a ≡ false
 out_of_range true true h e = let z : ◌≡◌ {A = ℕ} 0 1 = cc in absurd (omega arith)
 out_of_range true false h e = let z : ◌≡◌ {A = ℕ} 0 1 = cc in absurd (omega arith)
 out_of_range false b h e = refl
 
-in_range_lem : (a b : Bool) (h : ℕ) → cond a (cond b (S.Half h) S.NoShortForm) S.OutOfRange ≡ S.NoShortForm → a ≡ true
+in_range_lem : (a b : Bool) (h : ℕ) → cond a (cond b (Ok h) (Err U.NoShortForm)) (Err U.OutOfRange) ≡ Err U.NoShortForm → a ≡ true
 in_range_lem true b h e = refl
 in_range_lem false b h e = let z : ◌≡◌ {A = ℕ} 0 1 = cc in absurd (omega arith)
 
@@ -85,9 +83,9 @@ short_form_refuses i = (
 abbrev long_code : ℕ → Bool
 long_code k = eqb (k % 4) 3 && ltb (k % 32) 31
 
-none-long : (w : ℕ) → long_code (opcode w) ≡ false → decoded w ≡ Illegal
+none-long : (w : ℕ) → long_code (opcode w) ≡ false → decoded w ≡ None
 unfolding decoded
-none-long w e = found_passing (λ m. m ≡ Illegal) Illegal refl (λ k m. long_code k) (opcodes w) (opcode w) (λ m. m) tt (λ m t. absurd (subst T e t))
+none-long w e = found_passing (λ m. m ≡ None) None refl (λ k m. long_code k) (opcodes w) (opcode w) (λ m. m) tt (λ m t. absurd (subst T e t))
 
 pub legal-long : (w : ℕ) (i : Inst) → decodes w ≡ given i → (w % 4 ≡ 3) × (w % 32 < 31)
 legal-long w i e = go (long_code (opcode w)) refl
@@ -98,10 +96,10 @@ legal-long w i e = go (long_code (opcode w)) refl
         (omega (arith, eqb-true (opcode w % 4) 3 p.0), omega (arith, ltb-true (opcode w % 32) 31 p.1))
     go false t = absurd (apart (sym e ∙ ap of_decoded (none-long w t)))
 
-not-long : (w : ℕ) → (w % 4 ≡ 3 → ⊥) → decoded w ≡ Illegal
+not-long : (w : ℕ) → (w % 4 ≡ 3 → ⊥) → decoded w ≡ None
 not-long w f = none-long w (rw (ne_eqb (opcode w % 4) 3 (λ z. f (omega arith))))
 
-not_short : (h : ℕ) → h % 4 ≡ 3 → expanded h ≡ Illegal
+not_short : (h : ℕ) → h % 4 ≡ 3 → expanded h ≡ None
 unfolding expanded
 not_short h e = rw e
 
@@ -138,7 +136,7 @@ build_of_parts i r = rw (lt-ltb _ 32 r.0, lt-ltb _ 32 r.1, lt-ltb _ 32 r.2, back
 passed : (p : Parts) (i : Inst) → builds p ≡ given i → T (registers_ok p) × T (same_parts (parts_of (built p)) p) × (built p ≡ i)
 passed p i e = go (registers_ok p) (same_parts (parts_of (built p)) p) e
   where
-    go : (a b : Bool) → of_built (cond (a && b) (Instruction (built p)) OutOfRange) ≡ given i → T a × T b × (built p ≡ i)
+    go : (a b : Bool) → of_built (cond (a && b) (Some (built p)) None) ≡ given i → T a × T b × (built p ≡ i)
     go true true e = (tt, tt, same-value e)
     go true false e = absurd (apart (sym e))
     go false b e = absurd (apart (sym e))

@@ -14,9 +14,7 @@ use Rattle.octets.specs.Bytes.{load}
 use Rattle.place.specs.declared.Place.{Place}
 use Rattle.place.specs.declared.Place.TheVariants.{Memory, Fuse, Misaligned, Outside}
 use Rattle.place.proofs.Placed.{placed_fuse}
-use Rattle.fuses.specs.Row.{value_at, mark_at, burnt, word_stored, owns}
-use Rattle.fuses.specs.declared.Stored.{Stored}
-use Rattle.fuses.specs.declared.Stored.TheVariants.{Done, AlreadyBurnt}
+use Rattle.fuses.specs.Row.{Stored, done, already_burnt, value_at, mark_at, burnt, word_stored, owns}
 use Rattle.fuses.proofs.Rows.{length-burnt}
 use Rattle.state.specs.declared.State.{State}
 use Rattle.boards.specs.Boards.{Board, board}
@@ -55,7 +53,7 @@ module _ (own : ℕ) (m f g : List ℕ) (r : Agree (Mine own) f g) (l : length f
   word_alike k v h mine = rw (← (in_word k 1 (8 * k + 4) mine (omega arith) (omega arith))) (go (eqb (mark_at k f) 0) (eqb (low 32 v) 0))
     where
       word_by : Bool → Bool → List ℕ → Outcome Stored (List ℕ)
-      word_by blank none row = cond blank (outcome Done (cond none row (burnt k v row))) (outcome AlreadyBurnt row)
+      word_by blank none row = cond blank (outcome done (cond none row (burnt k v row))) (outcome already_burnt row)
 
       go : (s t : Bool)
           → ((word_by s t f).answer ≡ (word_by s t g).answer) × Agree (Mine own) (word_by s t f).lent (word_by s t g).lent × (length (word_by s t f).lent ≡ 512)
@@ -101,8 +99,8 @@ module _ (own : ℕ) (m f g : List ℕ) (r : Agree (Mine own) f g) (l : length f
 
 pub record Alike (own : ℕ) (v w : World) : Type 0 where
   pub st : v.st ≡ w.st
-  pub left : v.masks.own ≡ own
-  pub right : w.masks.own ≡ own
+  pub left : v.grant.own ≡ own
+  pub right : w.grant.own ≡ own
   pub peers : Peers own v.board w.board
 
 done_alike : {own : ℕ} {v w : World} → Alike own v w → Likewise own (step_done v) (step_done w)

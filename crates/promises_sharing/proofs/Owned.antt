@@ -1,4 +1,5 @@
 -- Stop 11: every other way in which a step goes has another stop number, so that 11 comes of a word that is not its own alone.
+use Rattle.std.specs.Prelude.{Ok, Err}
 use mathlib.Core.Path.{◌≡◌, refl, ap}
 use mathlib.Core.Bool.{Bool, true, false}
 use mathlib.Core.List.{List}
@@ -15,9 +16,7 @@ use Rattle.isa.specs.declared.StoreOp.{StoreOp}
 use Rattle.place.specs.declared.Place.{Place}
 use Rattle.place.specs.declared.Place.TheVariants.{Memory, Fuse, Misaligned, Outside}
 use Rattle.place.proofs.Placed.{placed_fuse}
-use Rattle.fuses.specs.Row.{word_stored, owns, all_words}
-use Rattle.fuses.specs.declared.Stored.{Stored}
-use Rattle.fuses.specs.declared.Stored.TheVariants as F
+use Rattle.fuses.specs.Row.{Stored, word_stored, owns, all_words}
 use Rattle.state.specs.declared.State.{State}
 use Rattle.boards.specs.Boards.{Board}
 use Rattle.access.specs.Accesses.{load_place, loaded_from, loaded_from_row, of_stored, store_place, stored_to, stored_in_row}
@@ -99,8 +98,8 @@ module _ (own : ℕ) (b : Board) (s : State) (z : s.stop ≡ 0) where
   act_exactly (Stores o v a pc) h = after_exactly (store_place o a b) _ (go (store_place o a b))
     where
       stored : (t : Stored) → (applied (of_stored t a pc) s).stop ≡ 11 → ⊥
-      stored F.Done n = omega (arith, z)
-      stored F.AlreadyBurnt n = omega arith
+      stored (Ok u) n = omega (arith, z)
+      stored (Err e) n = omega arith
 
       go : (p : Place) → After p (applied (stored_to own p o v a pc b).answer s).stop
       go (Memory i) = λ e. omega (arith, z)
@@ -137,6 +136,6 @@ module _ (own : ℕ) (b : Board) where
   act_owned (Stores o v a pc) h = store_owned (store_place o a b) o v a pc h
   act_owned (Ends why) h = refl
 
-pub stops_unowned : (w : World) → paused w ≡ true → ((stepped w).st.stop ≡ 11) ↔ ((k : ℕ) × There w.board (asked w) k × (owns w.masks.own k ≡ false))
+pub stops_unowned : (w : World) → paused w ≡ true → ((stepped w).st.stop ≡ 11) ↔ ((k : ℕ) × There w.board (asked w) k × (owns w.grant.own k ≡ false))
 unfolding stepped
-stops_unowned w p = rw p (act_exactly w.masks.own w.board w.st (eqb-true _ _ p) (asked w) (asked-other w))
+stops_unowned w p = rw p (act_exactly w.grant.own w.board w.st (eqb-true _ _ p) (asked w) (asked-other w))

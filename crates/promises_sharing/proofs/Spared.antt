@@ -6,13 +6,12 @@ use Prim.Native.Nat.{ℕ, zero, suc, ◌^◌}
 use lib.ListN.{length}
 use Rattle.answers.specs.Outcomes.{Outcome, decided}
 use Rattle.answers.specs.declared.Refusal.{Refusal}
-use Rattle.answers.specs.declared.Check.{Check}
-use Rattle.answers.specs.declared.Check.TheVariants.{Passed, Refused}
 use Rattle.word.specs.Bounds.{AllBelow}
 use Rattle.word.proofs.Bools.{holds}
 use Rattle.fuses.specs.Row.{Row, owns}
 use Rattle.fuses.proofs.Burning.{row-burnt, burnt_below}
-use Rattle.boards.specs.Boards.{Board, start_checked, Masks}
+use Rattle.boards.specs.Boards.{Board, start_checked}
+use Rattle.boards.specs.declared.Grant.{Grant}
 use Rattle.boards.proofs.Boards.{start_accepted}
 use Rattle.access.specs.Accesses.{Done}
 use Rattle.execute.specs.declared.Act.{Act}
@@ -20,9 +19,11 @@ use Rattle.execute.proofs.Acts.{Comes, sets, loads, into_memory, into_row, zero_
 use Rattle.engine.specs.Steps.{World, checked, stepped, ran}
 use Rattle.engine.proofs.Walk.{walk}
 use Rattle.engine.proofs.Laws.{masks-ran}
-use Rattle.machine.specs.Entries.{run_given, no_run, run_entry}
+use Rattle.machine.specs.Entries.{run_given, run_entry}
 use Rattle.promises_sharing.specs.Sharing.{Foreign, Agree}
 use Rattle.promises_sharing.proofs.Agreeing.{agree_refl, agree_trans, agree_at, burnt_beside}
+use Rattle.answers.specs.Checks.{Check, passed}
+use Rattle.std.specs.Prelude.{Err, Ok}
 
 -- ---- steps
 
@@ -54,13 +55,13 @@ comes_spares {own} {b} l (into_row o v a pc k e h mine z ne) = record {
 comes_spares {own} {b} l (zero_into_row o v a pc k e z) = spares_all (Foreign own) b.row
 comes_spares {own} {b} l (stops a why by) = spares_all (Foreign own) b.row
 
-step_spares : (w : World) → length w.board.row ≡ 512 → Spares (Foreign w.masks.own) w.board.row (stepped w).board.row
+step_spares : (w : World) → length w.board.row ≡ 512 → Spares (Foreign w.grant.own) w.board.row (stepped w).board.row
 step_spares w l =
-    walk w (λ c v. Spares (Foreign w.masks.own) w.board.row v.board.row) (λ e. spares_all _ w.board.row) (λ e d c. comes_spares l c)
+    walk w (λ c v. Spares (Foreign w.grant.own) w.board.row v.board.row) (λ e. spares_all _ w.board.row) (λ e d c. comes_spares l c)
 
-pub run_spares : (n : ℕ) (w : World) → length w.board.row ≡ 512 → Spares (Foreign w.masks.own) w.board.row (ran n w).board.row
+pub run_spares : (n : ℕ) (w : World) → length w.board.row ≡ 512 → Spares (Foreign w.grant.own) w.board.row (ran n w).board.row
 unfolding ran
-run_spares zero w l = spares_all (Foreign w.masks.own) w.board.row
+run_spares zero w l = spares_all (Foreign w.grant.own) w.board.row
 run_spares (suc n) w l =
     let s = step_spares w l in
     let r = run_spares n (stepped w) (s.others.long ∙ l) in
@@ -69,17 +70,17 @@ run_spares (suc n) w l =
 -- ---- entries
 
 -- what holds of what an entry gives where its tests pass, and of what was lent, holds of what it leaves
-pub decided-lent : {A B : Type 0} (P : B → Type 0) (c : Check) (o : Outcome A B) (refusal : Refusal → A) (before : B) → (c ≡ Passed → P o.lent) → P before
+pub decided-lent : {A B : Type 0} (P : B → Type 0) (c : Check) (o : Outcome A B) (refusal : Refusal → A) (before : B) → (c ≡ passed → P o.lent) → P before
     → P (decided c o refusal before).lent
 unfolding decided
-decided-lent P Passed o refusal before h k = h refl
-decided-lent P (Refused r) o refusal before h k = k
+decided-lent P (Ok u) o refusal before h k = h refl
+decided-lent P (Err r) o refusal before h k = k
 
 -- they pass only on a row of 512 bytes
-pub checked-long : (b : Board) (m : Masks) (rest : Check) → start_checked b m rest ≡ Passed → length b.row ≡ 512
+pub checked-long : (b : Board) (m : Grant) (rest : Check) → start_checked b m rest ≡ passed → length b.row ≡ 512
 checked-long b m rest e = (start_accepted b m rest e).0.row.0
 
-pub entry_spares : (n : ℕ) (w : World) → Spares (Foreign w.masks.own) w.board.row (run_entry n w).lent.row
+pub entry_spares : (n : ℕ) (w : World) → Spares (Foreign w.grant.own) w.board.row (run_entry n w).lent.row
 entry_spares n w =
-    decided-lent (λ b. Spares (Foreign w.masks.own) w.board.row b.row) (checked w) (run_given n w) no_run w.board
-    (λ e. run_spares n w (checked-long w.board w.masks _ e)) (spares_all (Foreign w.masks.own) w.board.row)
+    decided-lent (λ b. Spares (Foreign w.grant.own) w.board.row b.row) (checked w) (run_given n w) Err w.board
+    (λ e. run_spares n w (checked-long w.board w.grant _ e)) (spares_all (Foreign w.grant.own) w.board.row)

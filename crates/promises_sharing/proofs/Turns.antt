@@ -8,7 +8,7 @@ use Rattle.answers.specs.Answer.{given}
 use Rattle.word.specs.Bounds.{AllBelow}
 use Rattle.word.proofs.Bools.{holds}
 use Rattle.fuses.specs.Row.{Row, owns}
-use Rattle.boards.specs.Boards.{Masks}
+use Rattle.boards.specs.declared.Grant.{Grant}
 use Rattle.boards.proofs.Sharing.{shares}
 use Rattle.engine.specs.Steps.{World, ran, retired}
 use Rattle.engine.proofs.Laws.{ran-add}
@@ -52,7 +52,7 @@ others_spare : (own : ℕ) (es : List Start) (f : List ℕ) → AllApart own es 
 unfolding row_after AllApart
 others_spare own [] f a = spares_all (Mine own) f
 others_spare own (e ∷ es) f a =
-    spares_then (theirs e.masks.own own a.0 (entry_spares e.budget (begun e f))) (others_spare own es (run_entry e.budget (begun e f)).lent.row a.1)
+    spares_then (theirs e.grant.own own a.0 (entry_spares e.budget (begun e f))) (others_spare own es (run_entry e.budget (begun e f)).lent.row a.1)
 
 -- ---- a world on another row
 
@@ -67,7 +67,7 @@ alike_on f e a = record {
   peers = record { mem = a.peers.mem; row = agree_trans e a.peers.row; long = e.long ∙ a.peers.long };
 }
 
-itself : (w : World) → Runnable w → Alike w.masks.own w w
+itself : (w : World) → Runnable w → Alike w.grant.own w w
 itself w g = record { st = refl; left = refl; right = refl; peers = record { mem = refl; row = agree_refl _ w.board.row; long = g.1.1.row.0 } }
 
 -- ---- pieces, with the other's runs between them
@@ -95,12 +95,12 @@ turns-end b (t ∷ ts) {own} {u} {v} {w} e g a s h =
     (alike_on f o.others (run_alike b a).0) s.1 h.1 in
     (subst (λ y. Alike own (in_turns b (t ∷ ts) u) y) (sym (ran-add b (total t.piece.budget (pieces ts)) w)) i.0, λ j. answers_alike b e g a j ∷ i.1 j)
 
-swapped-all : (m : Masks) → Apart m.other m.own → (es : List Start) → AllSwapped m es → AllApart m.own es
+swapped-all : (m : Grant) → Apart m.other m.own → (es : List Start) → AllSwapped m es → AllApart m.own es
 unfolding AllSwapped AllApart
 swapped-all m h [] s = tt
 swapped-all m h (e ∷ es) s = (subst (λ k. Apart k.own m.own) (sym s.0) h, swapped-all m h es s.1)
 
-swapped-turns : (m : Masks) → Apart m.other m.own → (ts : List Turn) → TurnsSwapped m ts → TurnsApart m.own ts
+swapped-turns : (m : Grant) → Apart m.other m.own → (ts : List Turn) → TurnsSwapped m ts → TurnsApart m.own ts
 unfolding TurnsSwapped TurnsApart
 swapped-turns m h [] s = tt
 swapped-turns m h (t ∷ ts) s = (swapped-all m h t.others s.0, swapped-turns m h ts s.1)
@@ -115,8 +115,8 @@ cut_in_turns b ts w z a s h =
 pub cut_beside_the_other : CutBesideTheOther
 cut_beside_the_other b ts w z a s t =
     let g = passes_runnable w z (accepted_passes w a) in
-    let h = swapped_apart w.masks (λ c. holds false (sym ((shares w.masks.own w.masks.other).1 c) ∙ g.2)) in
-    cut_in_turns b ts w z a s (swapped-turns w.masks h ts t)
+    let h = swapped_apart w.grant (λ c. holds false (sym ((shares w.grant.own w.grant.other).1 c) ∙ g.2)) in
+    cut_in_turns b ts w z a s (swapped-turns w.grant h ts t)
 
 -- ---- two recipes
 
@@ -179,7 +179,7 @@ beside (second p ∷ ms) {a} {b} {f} v w v' w' h t s =
 
 pub side_by_side : SideBySide
 side_by_side ms v w zv zw av aw e h t =
-    (s.one.st, s.one.peers.mem, s.two.st, s.two.peers.mem, s.row, λ i. go i (owns v.masks.own (i / 8)) (owns w.masks.own (i / 8)) refl refl)
+    (s.one.st, s.one.peers.mem, s.two.st, s.two.peers.mem, s.row, λ i. go i (owns v.grant.own (i / 8)) (owns w.grant.own (i / 8)) refl refl)
   where
     gv : Runnable v
     gv = passes_runnable v zv (accepted_passes v av)
@@ -187,11 +187,11 @@ side_by_side ms v w zv zw av aw e h t =
     gw : Runnable w
     gw = passes_runnable w zw (accepted_passes w aw)
 
-    s : Beside v.masks.own w.masks.own v.board.row (both ms v w).0 (both ms v w).1 (ran (firsts ms) v) (ran (seconds ms) w)
+    s : Beside v.grant.own w.grant.own v.board.row (both ms v w).0 (both ms v w).1 (ran (firsts ms) v) (ran (seconds ms) w)
     s = beside ms v w v w h t (record { one = itself v gv; two = itself w gw; one_runs = gv; two_runs = gw; row = e; rest = agree_refl _ v.board.row })
 
     -- a byte of the first, of the second, or of neither, which no run changes
-    go : (i : ℕ) (c d : Bool) → owns v.masks.own (i / 8) ≡ c → owns w.masks.own (i / 8) ≡ d
+    go : (i : ℕ) (c d : Bool) → owns v.grant.own (i / 8) ≡ c → owns w.grant.own (i / 8) ≡ d
         → get_or (both ms v w).0.board.row i 0 ≡ cond c (get_or (ran (firsts ms) v).board.row i 0) (get_or (ran (seconds ms) w).board.row i 0)
     go i true d p q = s.one.peers.row.same i p
     go i false true p q = ap (λ g. get_or g i 0) (sym s.row) ∙ s.two.peers.row.same i q

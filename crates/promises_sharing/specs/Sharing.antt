@@ -2,16 +2,17 @@
 -- Each statement is proved in proofs/Sharing.antt.
 use Rattle.std.specs.Prelude.{◌≡◌, true, false, List, ◌↔◌, ℕ, suc, ◌+◌, ◌*◌, ◌/◌, ◌^◌, ◌≤◌, ◌<◌, eqb, length, take, drop, get_or}
 use Rattle.word.specs.Bounds.{AllBelow}
-use Rattle.answers.specs.Answer.{refused_with}
+use Rattle.answers.specs.Answer.{refused_with, of_result}
 use Rattle.fuses.specs.Row.{Row, owns, all_words}
 use Rattle.state.specs.declared.State.{State}
-use Rattle.boards.specs.Boards.{Board, board, BoardFits, Masks, masks, longest_memory}
+use Rattle.boards.specs.Boards.{Board, board, BoardFits, grant, longest_memory}
+use Rattle.boards.specs.declared.Grant.{Grant}
 use Rattle.access.specs.Accesses.{load_width, store_width}
 use Rattle.execute.specs.declared.Act.{Act}
 use Rattle.execute.specs.declared.Act.TheVariants.{Sets, Loads, Stores, Ends}
 use Rattle.engine.specs.Steps.{World, masked, world, asked, paused, stepped, ran, retired}
-use Rattle.machine.specs.Entries.{step_entry, of_stepped, run_entry, of_ran}
-use Rattle.resume.specs.Resuming.{Bench, shared_bench, bench, resume_entry, of_resumed}
+use Rattle.machine.specs.Entries.{step_entry, run_entry, of_ran}
+use Rattle.resume.specs.Resuming.{Bench, shared_bench, bench, resume_entry}
 use Rattle.promises.specs.Places.{FuseWord}
 
 -- ---- whose a word is
@@ -53,7 +54,7 @@ Reaches (Ends why) k = ⊥
 abbrev pub NotOwnedExactly : Type 0
 NotOwnedExactly =
     (w : World) → length w.board.mem ≤ longest_memory → paused w ≡ true
-    → ((stepped w).st.stop ≡ 11) ↔ ((k : ℕ) × Reaches (asked w) k × (owns w.masks.own k ≡ false))
+    → ((stepped w).st.stop ≡ 11) ↔ ((k : ℕ) × Reaches (asked w) k × (owns w.grant.own k ≡ false))
 
 -- it is all that masks add: a step that does not stop with 11 leaves the state and the board that it leaves without masks
 abbrev pub OnlyStopAdded : Type 0
@@ -68,22 +69,22 @@ NoMasksNoStop = (n : ℕ) (s : State) (b : Board) → (s.stop ≡ 11 → ⊥) �
 -- nor is a call without masks refused with 16
 abbrev pub NoMasksNoRefusal : Type 0
 NoMasksNoRefusal =
-    ((s : State) (b : Board) → of_stepped (step_entry (world s b)).answer ≡ refused_with 16 → ⊥)
+    ((s : State) (b : Board) → of_result (step_entry (world s b)).answer ≡ refused_with 16 → ⊥)
     × ((n : ℕ) (s : State) (b : Board) → of_ran (run_entry n (world s b)).answer ≡ refused_with 16 → ⊥)
-    × ((n k : ℕ) (b : Board) (slots : List ℕ) → of_resumed (resume_entry n k (bench b slots)).answer ≡ refused_with 16 → ⊥)
+    × ((n k : ℕ) (b : Board) (slots : List ℕ) → of_result (resume_entry n k (bench b slots)).answer ≡ refused_with 16 → ⊥)
 
 -- ---- words that are not its own never change
 
 -- over any number of steps each keeps its eight bytes: the other's words, and those of neither
 abbrev pub OthersKept : Type 0
-OthersKept = (n : ℕ) (w : World) → length w.board.row ≡ 512 → Agree (Foreign w.masks.own) (ran n w).board.row w.board.row
+OthersKept = (n : ℕ) (w : World) → length w.board.row ≡ 512 → Agree (Foreign w.grant.own) (ran n w).board.row w.board.row
 
 -- over any call too, accepted or refused
 abbrev pub EntriesKeepOthers : Type 0
 EntriesKeepOthers =
-    ((w : World) → Agree (Foreign w.masks.own) (step_entry w).lent.row w.board.row)
-    × ((n : ℕ) (w : World) → Agree (Foreign w.masks.own) (run_entry n w).lent.row w.board.row)
-    × ((n k : ℕ) (h : Bench) → Agree (Foreign h.masks.own) (resume_entry n k h).lent.board.row h.board.row)
+    ((w : World) → Agree (Foreign w.grant.own) (step_entry w).lent.row w.board.row)
+    × ((n : ℕ) (w : World) → Agree (Foreign w.grant.own) (run_entry n w).lent.row w.board.row)
+    × ((n k : ℕ) (h : Bench) → Agree (Foreign h.grant.own) (resume_entry n k h).lent.board.row h.board.row)
 
 -- nor does a run of a slot change another slot, so that two recipes may have theirs in one buffer
 abbrev pub OtherSlotsKept : Type 0
@@ -98,29 +99,29 @@ OtherSlotsKept =
 abbrev pub Isolated : Type 0
 Isolated =
     (n own p q : ℕ) (s : State) (m f g : List ℕ) → length f ≡ 512 → Agree (Mine own) f g
-    → ((ran n (masked (masks own p) s (board m f))).st ≡ (ran n (masked (masks own q) s (board m g))).st)
-    × ((ran n (masked (masks own p) s (board m f))).board.mem ≡ (ran n (masked (masks own q) s (board m g))).board.mem)
-    × Agree (Mine own) (ran n (masked (masks own p) s (board m f))).board.row (ran n (masked (masks own q) s (board m g))).board.row
-    × (retired n (masked (masks own p) s (board m f)) ≡ retired n (masked (masks own q) s (board m g)))
+    → ((ran n (masked (grant own p) s (board m f))).st ≡ (ran n (masked (grant own q) s (board m g))).st)
+    × ((ran n (masked (grant own p) s (board m f))).board.mem ≡ (ran n (masked (grant own q) s (board m g))).board.mem)
+    × Agree (Mine own) (ran n (masked (grant own p) s (board m f))).board.row (ran n (masked (grant own q) s (board m g))).board.row
+    × (retired n (masked (grant own p) s (board m f)) ≡ retired n (masked (grant own q) s (board m g)))
 
 -- of a call: the same answer, a refusal among them, where both rows pass check 3
 abbrev pub StepIsolated : Type 0
 StepIsolated =
-    (k : Masks) (s : State) (m f g : List ℕ) → Row f → Row g → Agree (Mine k.own) f g
+    (k : Grant) (s : State) (m f g : List ℕ) → Row f → Row g → Agree (Mine k.own) f g
     → ((step_entry (masked k s (board m f))).answer ≡ (step_entry (masked k s (board m g))).answer)
     × ((step_entry (masked k s (board m f))).lent.mem ≡ (step_entry (masked k s (board m g))).lent.mem)
     × Agree (Mine k.own) (step_entry (masked k s (board m f))).lent.row (step_entry (masked k s (board m g))).lent.row
 
 abbrev pub RunIsolated : Type 0
 RunIsolated =
-    (n : ℕ) (k : Masks) (s : State) (m f g : List ℕ) → Row f → Row g → Agree (Mine k.own) f g
+    (n : ℕ) (k : Grant) (s : State) (m f g : List ℕ) → Row f → Row g → Agree (Mine k.own) f g
     → ((run_entry n (masked k s (board m f))).answer ≡ (run_entry n (masked k s (board m g))).answer)
     × ((run_entry n (masked k s (board m f))).lent.mem ≡ (run_entry n (masked k s (board m g))).lent.mem)
     × Agree (Mine k.own) (run_entry n (masked k s (board m f))).lent.row (run_entry n (masked k s (board m g))).lent.row
 
 abbrev pub SlotRunIsolated : Type 0
 SlotRunIsolated =
-    (n i : ℕ) (k : Masks) (m f g slots : List ℕ) → Row f → Row g → Agree (Mine k.own) f g
+    (n i : ℕ) (k : Grant) (m f g slots : List ℕ) → Row f → Row g → Agree (Mine k.own) f g
     → ((resume_entry n i (shared_bench k (board m f) slots)).answer ≡ (resume_entry n i (shared_bench k (board m g) slots)).answer)
     × ((resume_entry n i (shared_bench k (board m f) slots)).lent.board.mem ≡ (resume_entry n i (shared_bench k (board m g) slots)).lent.board.mem)
     × ((resume_entry n i (shared_bench k (board m f) slots)).lent.slots ≡ (resume_entry n i (shared_bench k (board m g) slots)).lent.slots)

@@ -4,7 +4,8 @@ use Rattle.std.specs.Prelude.{◌≡◌, true, false, cond, List, [], ◌∷◌,
 use Rattle.answers.specs.Answer.{Answer}
 use Rattle.fuses.specs.Row.{owns}
 use Rattle.state.specs.declared.State.{State}
-use Rattle.boards.specs.Boards.{board, Masks, swapped}
+use Rattle.boards.specs.Boards.{board, swapped}
+use Rattle.boards.specs.declared.Grant.{Grant}
 use Rattle.engine.specs.Steps.{World, onward, Sized, ran}
 use Rattle.machine.specs.Entries.{run_entry, of_ran}
 use Rattle.slots.specs.Slots.{slot_there}
@@ -20,7 +21,7 @@ Apart a b = (k : ℕ) → owns a k ≡ true → owns b k ≡ false
 
 -- the other's runs have the masks swapped: where 16 is not refused, the two are apart
 abbrev pub SwappedApart : Type 0
-SwappedApart = (m : Masks) → (Shared m → ⊥) → Apart (swapped m).own m.own
+SwappedApart = (m : Grant) → (Shared m → ⊥) → Apart (swapped m).own m.own
 
 -- ---- the other's runs between pieces
 
@@ -36,7 +37,7 @@ pieces (t ∷ ts) = t.piece ∷ pieces ts
 -- their own words are apart from these
 unfoldable pub AllApart : ℕ → List Start → Type 0
 AllApart own [] = Unit {0}
-AllApart own (e ∷ es) = Apart e.masks.own own × AllApart own es
+AllApart own (e ∷ es) = Apart e.grant.own own × AllApart own es
 
 unfoldable pub TurnsApart : ℕ → List Turn → Type 0
 TurnsApart own [] = Unit {0}
@@ -65,24 +66,24 @@ abbrev pub EndsAsAlone : ℕ → List Turn → World → Type 0
 EndsAsAlone b ts w =
     ((in_turns b ts w).st ≡ (ran (total b (pieces ts)) w).st)
     × ((in_turns b ts w).board.mem ≡ (ran (total b (pieces ts)) w).board.mem)
-    × Agree (Mine w.masks.own) (in_turns b ts w).board.row (ran (total b (pieces ts)) w).board.row
+    × Agree (Mine w.grant.own) (in_turns b ts w).board.row (ran (total b (pieces ts)) w).board.row
     × (turn_answers b ts w ≡ manual b (pieces ts) w)
 
 -- for every accepted start, and any runs between whose own words are apart
 abbrev pub CutInTurns : Type 0
-CutInTurns = (b : ℕ) (ts : List Turn) (w : World) → Sized w → Accepted w → SlotsThere (pieces ts) → TurnsApart w.masks.own ts → EndsAsAlone b ts w
+CutInTurns = (b : ℕ) (ts : List Turn) (w : World) → Sized w → Accepted w → SlotsThere (pieces ts) → TurnsApart w.grant.own ts → EndsAsAlone b ts w
 
 -- the other's runs, masks swapped
-unfoldable pub AllSwapped : Masks → List Start → Type 0
+unfoldable pub AllSwapped : Grant → List Start → Type 0
 AllSwapped m [] = Unit {0}
-AllSwapped m (e ∷ es) = (e.masks ≡ swapped m) × AllSwapped m es
+AllSwapped m (e ∷ es) = (e.grant ≡ swapped m) × AllSwapped m es
 
-unfoldable pub TurnsSwapped : Masks → List Turn → Type 0
+unfoldable pub TurnsSwapped : Grant → List Turn → Type 0
 TurnsSwapped m [] = Unit {0}
 TurnsSwapped m (t ∷ ts) = AllSwapped m t.others × TurnsSwapped m ts
 
 abbrev pub CutBesideTheOther : Type 0
-CutBesideTheOther = (b : ℕ) (ts : List Turn) (w : World) → Sized w → Accepted w → SlotsThere (pieces ts) → TurnsSwapped w.masks ts → EndsAsAlone b ts w
+CutBesideTheOther = (b : ℕ) (ts : List Turn) (w : World) → Sized w → Accepted w → SlotsThere (pieces ts) → TurnsSwapped w.grant ts → EndsAsAlone b ts w
 
 -- ---- two recipes
 
@@ -120,10 +121,10 @@ seconds (second p ∷ ms) = p.budget + seconds ms
 -- in any interleaving of their pieces each ends as it would alone on the first row, and the row that they leave has in the words of the first what the first would leave alone, and in all others what the second would
 abbrev pub SideBySide : Type 0
 SideBySide =
-    (ms : List Move) (v w : World) → Sized v → Sized w → Accepted v → Accepted w → w.board.row ≡ v.board.row → Apart v.masks.own w.masks.own → MovesThere ms
+    (ms : List Move) (v w : World) → Sized v → Sized w → Accepted v → Accepted w → w.board.row ≡ v.board.row → Apart v.grant.own w.grant.own → MovesThere ms
     → ((both ms v w).0.st ≡ (ran (firsts ms) v).st)
     × ((both ms v w).0.board.mem ≡ (ran (firsts ms) v).board.mem)
     × ((both ms v w).1.st ≡ (ran (seconds ms) w).st)
     × ((both ms v w).1.board.mem ≡ (ran (seconds ms) w).board.mem)
     × ((both ms v w).1.board.row ≡ (both ms v w).0.board.row)
-    × ((i : ℕ) → get_or (both ms v w).0.board.row i 0 ≡ cond (owns v.masks.own (i / 8)) (get_or (ran (firsts ms) v).board.row i 0) (get_or (ran (seconds ms) w).board.row i 0))
+    × ((i : ℕ) → get_or (both ms v w).0.board.row i 0 ≡ cond (owns v.grant.own (i / 8)) (get_or (ran (firsts ms) v).board.row i 0) (get_or (ran (seconds ms) w).board.row i 0))

@@ -6,7 +6,6 @@ use native.Mathlib.Omega.{arith}
 use lib.ListN.{length, drop, length-append, length-drop}
 use lib.Seq.{drop_at}
 use Rattle.answers.specs.declared.Refusal.TheVariants as R
-use Rattle.answers.specs.declared.Check.TheVariants.{Passed}
 use Rattle.answers.proofs.Order.{iff_same, no_rows, then_row}
 use Rattle.answers.proofs.Entries.{exactly, keeps_lent}
 use Rattle.isa.specs.Registers.{reg}
@@ -18,8 +17,6 @@ use Rattle.text.specs.Names.{names, name_at}
 use Rattle.text.proofs.Lengths as Lengths
 use Rattle.text.proofs.ShortLengths.{short_longest}
 use Rattle.text.proofs.Distinct as Distinct
-use Rattle.disassembler.specs.declared.Written.TheVariants as W
-use Rattle.disassembler.specs.Entries.{of_written}
 use Rattle.disassembler.proofs.Outcomes.{fills, room_says, legal_says}
 use Rattle.ascii.specs.Numbers.{hex, signed_decimal, decimal, decimal_by}
 use Rattle.ascii.proofs.Numbers.{decimal_least}
@@ -30,24 +27,27 @@ use Rattle.listing.specs.Listing.{shown_of, shown_at, line_of, line_at, lines_fr
 use Rattle.listing.proofs.Lines.{line-none}
 use Rattle.listing.proofs.Pages as Pages
 use Rattle.promises_codes.proofs.Readings.{legal-is}
-use Rattle.promises_text.specs.Text.{WordTextRefuses, HalfTextRefuses, TextRefuses, TextKeeps, WordText, HalfText, InstText, longest_text, TextFits, longest_short_text, ShortTextFits, TextDetermines, ShortIsNotLong, pages, PagesAreListing, PageMoves, PageFits, EmptyListing, LongListing, OddListing, PaperListing, PageKeeps, WroteDetermined}
+use Rattle.promises_text.specs.Text.{WordTextRefuses, HalfTextRefuses, TextRefuses, TextKeeps, WordText, HalfText, InstText, longest_text, TextFits, longest_short_text, ShortTextFits, TextDetermines, ShortIsNotLong, pages, PagesAreListing, PageMoves, PageFits, EmptyListing, LongListing, OddListing, PaperListing, PageKeeps, WroteDetermined, AppendedDetermined}
+use Rattle.answers.specs.Answer.{of_result}
+use Rattle.answers.specs.Checks.{passed}
+use Rattle.std.specs.Prelude.{Err}
 
 -- ---- refusals
 
 pub word_text_refuses : WordTextRefuses
-word_text_refuses w room = exactly of_written W.Refused (λ r. refl) _ _ room refl (room_says _ room (legal_says (decoded w)))
+word_text_refuses w room = exactly of_result Err (λ r. refl) _ _ room refl (room_says _ room (legal_says (decoded w)))
 
 pub half_text_refuses : HalfTextRefuses
-half_text_refuses h room = exactly of_written W.Refused (λ r. refl) _ _ room refl (room_says _ room (legal_says (expanded h)))
+half_text_refuses h room = exactly of_result Err (λ r. refl) _ _ room refl (room_says _ room (legal_says (expanded h)))
 
 pub text_refuses : TextRefuses
-text_refuses i room = exactly of_written W.Refused (λ r. refl) _ _ room refl (room_says _ room (then_row (in_range i) R.Field Passed iff_same no_rows))
+text_refuses i room = exactly of_result Err (λ r. refl) _ _ room refl (room_says _ room (then_row (in_range i) R.Field passed iff_same no_rows))
 
 pub text_keeps : TextKeeps
 text_keeps room = (
-  λ w. keeps_lent of_written W.Refused (λ r. refl) _ _ room refl,
-  λ h. keeps_lent of_written W.Refused (λ r. refl) _ _ room refl,
-  λ i. keeps_lent of_written W.Refused (λ r. refl) _ _ room refl,
+  λ w. keeps_lent of_result Err (λ r. refl) _ _ room refl,
+  λ h. keeps_lent of_result Err (λ r. refl) _ _ room refl,
+  λ i. keeps_lent of_result Err (λ r. refl) _ _ room refl,
 )
 
 -- ---- the text
@@ -141,3 +141,8 @@ paper_listing = refl
 
 pub wrote_determined : WroteDetermined
 wrote_determined room at text r₁ r₂ m n v w = (v.room ∙ sym w.room, v.next ∙ sym w.next)
+
+pub appended_determined : AppendedDetermined
+appended_determined c text d e v w =
+    let same = wrote_determined c.room.now c.at text d.room.now e.room.now d.at e.at v.wrote w.wrote in
+    (v.same_room ∙ sym w.same_room, same.0, same.1)

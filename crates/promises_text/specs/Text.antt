@@ -1,11 +1,12 @@
 -- What is promised of the text of an instruction and of the listing, in the paper's numbers. Each statement is proved in proofs/Text.antt.
-use Rattle.std.specs.Prelude.{◌≡◌, true, false, List, [], ◌∷◌, ◌++◌, ℕ, ◌-◌, ◌^◌, ◌≤◌, ◌<◌, length, drop}
-use Rattle.answers.specs.Answer.{given, refused_with}
+use Rattle.std.specs.Prelude.{◌≡◌, true, false, List, [], ◌∷◌, ◌++◌, ℕ, ◌-◌, ◌^◌, ◌≤◌, ◌<◌, length, drop, Result}
+use Rattle.answers.specs.Answer.{given, refused_with, of_result}
 use Rattle.answers.specs.Outcomes.{Outcome}
 use Rattle.answers.specs.Entries.{Refuses, Keeps}
 use Rattle.answers.specs.Order.{refusal, no_refusal}
 use Rattle.ascii.specs.Ascii.{bytes}
-use Rattle.ascii.specs.Rooms.{Wrote}
+use Rattle.ascii.specs.declared.Cursor.{Cursor}
+use Rattle.ascii.specs.Rooms.{Wrote, Appended}
 use Rattle.isa.specs.declared.Inst.{Inst}
 use Rattle.isa.specs.declared.Inst.TheVariants.{Imm}
 use Rattle.isa.specs.declared.ImmOp.TheVariants.{Addi, Sltiu}
@@ -13,11 +14,11 @@ use Rattle.isa.specs.Registers.{reg}
 use Rattle.isa.specs.Encoding.{in_range}
 use Rattle.word.specs.Bounds.{AllBelow}
 use Rattle.text.specs.Text.{text_of, short_text_of}
-use Rattle.disassembler.specs.declared.Written.{Written}
-use Rattle.disassembler.specs.Entries.{word_entry, half_entry, inst_entry, of_written}
+use Rattle.disassembler.specs.Entries.{word_entry, half_entry, inst_entry}
 use Rattle.listing.specs.declared.Listed.{Listed}
 use Rattle.listing.specs.Listing.{Lines, lines, before, page_of, listing, list_entry}
 use Rattle.promises_codes.specs.Instructions.{decodes, expands}
+use Rattle.answers.specs.declared.Refusal.{Refusal}
 
 -- ---- refusals, each exactly if its row of the table is the first that holds
 
@@ -28,28 +29,28 @@ SmallRoom room = length room < 24
 -- 7: no legal instruction in the given bits
 abbrev pub WordTextRefuses : Type 0
 WordTextRefuses =
-    (w : ℕ) (room : List ℕ) → Refuses of_written (word_entry w room) (refusal 6 (SmallRoom room) (refusal 7 (decodes w ≡ refused_with 7) no_refusal))
+    (w : ℕ) (room : List ℕ) → Refuses of_result (word_entry w room) (refusal 6 (SmallRoom room) (refusal 7 (decodes w ≡ refused_with 7) no_refusal))
 
 abbrev pub HalfTextRefuses : Type 0
 HalfTextRefuses =
-    (h : ℕ) (room : List ℕ) → Refuses of_written (half_entry h room) (refusal 6 (SmallRoom room) (refusal 7 (expands h ≡ refused_with 7) no_refusal))
+    (h : ℕ) (room : List ℕ) → Refuses of_result (half_entry h room) (refusal 6 (SmallRoom room) (refusal 7 (expands h ≡ refused_with 7) no_refusal))
 
 -- 8: a field out of range, or an odd branch or jal offset
 abbrev pub TextRefuses : Type 0
-TextRefuses = (i : Inst) (room : List ℕ) → Refuses of_written (inst_entry i room) (refusal 6 (SmallRoom room) (refusal 8 (in_range i ≡ false) no_refusal))
+TextRefuses = (i : Inst) (room : List ℕ) → Refuses of_result (inst_entry i room) (refusal 6 (SmallRoom room) (refusal 8 (in_range i ≡ false) no_refusal))
 
 -- every byte of the room kept
 abbrev pub TextKeeps : Type 0
 TextKeeps =
     (room : List ℕ)
-    → ((w : ℕ) → Keeps of_written (word_entry w room) room)
-    × ((h : ℕ) → Keeps of_written (half_entry h room) room)
-    × ((i : Inst) → Keeps of_written (inst_entry i room) room)
+    → ((w : ℕ) → Keeps of_result (word_entry w room) room)
+    × ((h : ℕ) → Keeps of_result (half_entry h room) room)
+    × ((i : Inst) → Keeps of_result (inst_entry i room) room)
 
 -- ---- the text: the answer is its length; it stands at the front of the room, and bytes of the room after it stay
 
-abbrev pub Fills : Outcome Written (List ℕ) → List ℕ → List ℕ → Type 0
-Fills o text room = (of_written o.answer ≡ given (length text)) × (o.lent ≡ text ++ drop (length text) room)
+abbrev pub Fills : Outcome (Result ℕ Refusal) (List ℕ) → List ℕ → List ℕ → Type 0
+Fills o text room = (of_result o.answer ≡ given (length text)) × (o.lent ≡ text ++ drop (length text) room)
 
 abbrev pub WordText : Type 0
 WordText = (w : ℕ) (i : Inst) (room : List ℕ) → 24 ≤ length room → decodes w ≡ given i → Fills (word_entry w room) (text_of i) room
@@ -136,3 +137,9 @@ PaperListing =
 abbrev pub WroteDetermined : Type 0
 WroteDetermined =
     (room : List ℕ) (at : ℕ) (text r₁ r₂ : List ℕ) (m n : ℕ) → Wrote room at text r₁ m → Wrote room at text r₂ n → (r₁ ≡ r₂) × (m ≡ n)
+
+-- by a cursor: the same room, the same bytes in it and the same place
+abbrev pub AppendedDetermined : Type 0
+AppendedDetermined =
+    (c : Cursor) (text : List ℕ) (d e : Cursor) → Appended c text d → Appended c text e
+    → (d.room.ghost_name ≡ e.room.ghost_name) × (d.room.now ≡ e.room.now) × (d.at ≡ e.at)

@@ -1,62 +1,23 @@
 -- Along the line of a sample.
+use Rattle.std.specs.Prelude.{Ok}
+use Rattle.reader.specs.declared.Cursor.{Cursor}
 use mathlib.Core.Path.{◌≡◌, refl, ap, sym, ◌∙◌}
 use mathlib.Core.List.{List, [], ◌∷◌}
-use mathlib.Core.Bool.{Bool, true, false, cond, ◌&&◌, not}
-use mathlib.Core.Logic.{⊎_elim}
-use Prim.Native.Nat.{ℕ, zero, suc, ◌+◌, ◌-◌, ◌≤◌, ◌<◌}
+use mathlib.Core.Bool.{Bool, true, false, cond}
+use Prim.Native.Nat.{ℕ, suc, ◌+◌, ◌-◌, ◌≤◌, ◌<◌}
 use native.Mathlib.Omega.{arith}
-use native.Mathlib.Nat.{le_of_suc-le-suc}
 use native.Mathlib.Numerals.{add-one}
-use lib.Dec.{T, eqb, ltb}
-use lib.ListN.{length, get_or, drop, drop_of_length-le, length-drop, get_or-eq_default}
+use lib.Dec.{eqb, ltb}
+use lib.ListN.{length, get_or, drop, drop_of_length-le, length-drop}
 use lib.Seq.{drop-cons}
-use borrow.Author.Tests.{lt-ltb, eq-eqb, ltb-true}
-use Rattle.word.proofs.Bools.{below, and_left, and_right}
-use Rattle.word.proofs.Sweep.{at as swept}
-use Rattle.ascii.specs.Numbers.{decimal, decimal_by, signed_decimal}
-use Rattle.isa.specs.Building.{built}
-use Rattle.text.specs.Names.{names, name_at}
-use Rattle.text.specs.Text.{operands_of, text_of}
+use borrow.Author.Tests.{ltb-true}
 use Rattle.assembly.specs.Lines.{Piece, byte, field, piece_of, minus, word}
 use Rattle.assembly.specs.Scanner.{numeral}
 use Rattle.assembly.proofs.Runs.{read_number}
 use Rattle.reader.specs.declared.Fields.{Fields}
-use Rattle.reader.specs.declared.Read.{Read}
-use Rattle.reader.specs.declared.Read.TheVariants.{At, Stuck}
 use Rattle.numerals.specs.Numbers.{front}
 use Rattle.text.specs.Samples.{sample_line}
-use Rattle.reader.specs.Reading.{taken, over_piece, along}
-use Rattle.text.proofs.Samples.{sample-short}
-
--- ---- the samples have no byte 0
-
-abbrev full : List ℕ → Bool
-full [] = true
-full (b ∷ l) = not (eqb b 0) && full l
-
-full_by : (k : ℕ) → k < 48 → T (cond (ltb k 48) (full (sample_line k)) true)
-unfolding decimal decimal_by signed_decimal names name_at operands_of text_of built sample_line
-full_by k h = swept (λ k. cond (ltb k 48) (full (sample_line k)) true) 6 0 tt k (omega arith) (omega arith)
-
-byte-there : (l : List ℕ) (j : ℕ) → T (full l) → j < length l → get_or l j 0 ≡ 0 → ⊥
-byte-there [] j t h e = omega arith
-byte-there (b ∷ l) zero t h e =
-    let f : T (not (eqb b 0)) = and_left (not (eqb b 0)) (full l) t in
-    rw (eq-eqb b 0 e) at f
-byte-there (b ∷ l) (suc j) t h e = byte-there l j (and_right (not (eqb b 0)) (full l) t) (le_of_suc-le-suc h) e
-
-pub line-over : (k j : ℕ) → k < 48 → get_or (sample_line k) j 0 ≡ 0 → drop j (sample_line k) ≡ []
-line-over k j l e =
-    ⊎_elim (λ (h : j < length (sample_line k)). absurd (byte-there (sample_line k) j (rw (lt-ltb k 48 l) at (full_by k l)) h e))
-    (λ (h : length (sample_line k) ≤ j). drop_of_length-le (sample_line k) h)
-    (below j (length (sample_line k)))
-
-pub line-end : (k : ℕ) → k < 48 → drop 16 (sample_line k) ≡ []
-line-end k l = drop_of_length-le (sample_line k) (sample-short k l)
-
-line_on : (q : List ℕ) (j : ℕ) → (get_or q j 0 ≡ 0 → ⊥) → drop j q ≡ get_or q j 0 ∷ drop (j + 1) q
-line_on q j n =
-    ⊎_elim (λ (h : j < length q). rw (add-one j) (drop-cons q j 0 h)) (λ (h : length q ≤ j). absurd (n (get_or-eq_default q 0 h))) (below j (length q))
+use Rattle.reader.specs.Reading.{At, Stuck, Read, no_fields, taken, over_piece, along}
 
 -- ---- along it
 
@@ -74,25 +35,33 @@ module _ (k j at : ℕ) (s : List ℕ) (x : Fields) where
   unfolding along
   along_nil = refl
 
-  pub over-here : drop j (sample_line k) ≡ [] → At at x ≡ along k (drop j (sample_line k)) s (At at x)
-  over-here e = along_nil ∙ sym (ap (λ (q : List ℕ). along k q s (At at x)) e)
+  module _ (line : List ℕ) (e : line ≡ sample_line k) where
+    pub over-here : length line ≤ j → At at x ≡ along k (drop j (sample_line k)) s (At at x)
+    over-here h = along_nil ∙ ap (λ (q : List ℕ). along k q s (At at x)) (sym (drop_of_length-le line h) ∙ ap (drop j) e)
 
-  pub one_more : (p : ℕ) → p ≡ get_or (sample_line k) j 0 → (p ≡ 0 → ⊥) → (r : Read) → r ≡ over_piece k (piece_of p) (drop at s) at x
-      → along k (drop j (sample_line k)) s (At at x) ≡ along k (drop (j + 1) (sample_line k)) s r
-  one_more p e n r q =
-      let f = line_on (sample_line k) j (λ z. n (e ∙ z)) in
-      ap (λ (q : List ℕ). along k q s (At at x)) (f ∙ ap (λ (b : ℕ). b ∷ drop (j + 1) (sample_line k)) (sym e)) ∙ along_cons p (drop (j + 1) (sample_line k))
-      ∙ ap (along k (drop (j + 1) (sample_line k)) s) (sym q)
+    line_on : j < length line → drop j (sample_line k) ≡ get_or line j 0 ∷ drop (j + 1) (sample_line k)
+    line_on h = rw (← e, add-one j) (drop-cons line j 0 h)
+
+    one_more : j < length line → (r : Read) → r ≡ over_piece k (piece_of (get_or line j 0)) (drop at s) at x
+        → along k (drop j (sample_line k)) s (At at x) ≡ along k (drop (j + 1) (sample_line k)) s r
+    one_more h r q =
+        ap (λ (q : List ℕ). along k q s (At at x)) (line_on h) ∙ along_cons (get_or line j 0) (drop (j + 1) (sample_line k))
+        ∙ ap (along k (drop (j + 1) (sample_line k)) s) (sym q)
 
 -- ---- the place stays within the text
 
-pub within : (k at : ℕ) (p : Piece) (s : List ℕ) (x : Fields) (n : ℕ) (y : Fields) → at ≤ length s → At n y ≡ over_piece k p (drop at s) at x → n ≤ length s
+place : {n m : ℕ} {x y : Fields} → At n x ≡ At m y → n ≡ m
+place {n} {m} {x} {y} e =
+    let z : ◌≡◌ {A = Cursor} (record { at = n; fields = x }) (record { at = m; fields = y }) = cc in
+    ap (λ (c : Cursor). c.at) z
+
+within : (k at : ℕ) (p : Piece) (s : List ℕ) (x : Fields) (n : ℕ) (y : Fields) → at ≤ length s → At n y ≡ over_piece k p (drop at s) at x → n ≤ length s
 unfolding over_piece
 within k at (byte b) s x n y h e = go (drop at s) (length-drop at s) e
   where
     test : (l : List ℕ) → suc (length l) + at ≤ length s → (t : Bool) → At n y ≡ cond t (At (at + 1) x) (Stuck at) → n ≤ length s
     test l g true e =
-        let z : n ≡ at + 1 = cc in
+        let z : n ≡ at + 1 = place e in
         omega arith
     test l g false e =
         let z : ◌≡◌ {A = ℕ} 0 1 = cc in
@@ -110,9 +79,25 @@ within k at (field f) s x n y h e = test (ltb (minus f (drop at s)) (numeral f (
 
     test : (t : Bool) → ltb (minus f l) (numeral f l) ≡ t → At n y ≡ cond t (At (at + numeral f l) (taken k (word f at (front f l)) x)) (Stuck (at + numeral f l)) → n ≤ length s
     test true q e =
-        let z : n ≡ at + numeral f l = cc in
+        let z : n ≡ at + numeral f l = place e in
         let r = read_number f l (ltb-true (minus f l) (numeral f l) q) in
         omega (arith, length-drop at s, r.1)
     test false q e =
         let z : ◌≡◌ {A = ℕ} 0 1 = cc in
         absurd (omega arith)
+
+-- ---- one piece on
+
+-- from here along the rest of the sample is the whole way along it
+abbrev pub Along : ℕ → ℕ → List ℕ → ℕ → Cursor → Type 0
+Along k from s j c = (c.at ≤ length s) × (along k (drop j (sample_line k)) s (Ok c) ≡ along k (sample_line k) s (At from no_fields))
+
+module _ (k from j : ℕ) (s : List ℕ) (c : Cursor) (so_far : Along k from s j c) (line : List ℕ) (e : line ≡ sample_line k) (h : j < length line) where
+  pub goes_on : (d : Cursor) → Ok d ≡ over_piece k (piece_of (get_or line j 0)) (drop c.at s) c.at c.fields → Along k from s (j + 1) d
+  goes_on d q = (
+    within k c.at (piece_of (get_or line j 0)) s c.fields d.at d.fields so_far.0 q,
+    sym (one_more k j c.at s c.fields line e h (Ok d) q) ∙ so_far.1,
+  )
+
+  pub stops : (n : ℕ) → Stuck n ≡ over_piece k (piece_of (get_or line j 0)) (drop c.at s) c.at c.fields → Stuck n ≡ along k (sample_line k) s (At from no_fields)
+  stops n q = sym (stays k (drop (j + 1) (sample_line k)) s n) ∙ sym (one_more k j c.at s c.fields line e h (Stuck n) q) ∙ so_far.1

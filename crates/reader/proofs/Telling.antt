@@ -1,4 +1,5 @@
 -- The reader finds what the definition says.
+use Rattle.std.specs.Prelude.{Ok, Err}
 use mathlib.Core.Path.{◌≡◌, refl, ap, sym, ◌∙◌, subst}
 use mathlib.Core.List.{List, [], ◌∷◌, ◌++◌}
 use mathlib.Core.Bool.{Bool, true, false, cond}
@@ -18,13 +19,9 @@ use Rattle.assembly.specs.Scanner.{Scan, at, stuck, numeral, over, scan}
 use Rattle.assembly.specs.Scanner as S
 use Rattle.assembly.proofs.Scanning.{stays, Outcome, outcome}
 use Rattle.reader.specs.declared.Fields.{Fields}
-use Rattle.reader.specs.declared.Read.{Read}
-use Rattle.reader.specs.declared.Read.TheVariants.{At, Stuck}
-use Rattle.reader.specs.declared.Line.{Line}
-use Rattle.reader.specs.declared.Line.TheVariants.{Reads, Unreadable}
 use Rattle.text.specs.Samples.{sample_line}
-use Rattle.reader.specs.Reading.{no_fields, taken, over_piece, along}
-use Rattle.reader.specs.Line.{taken_all, line_of, furthest, read_by, among_from, prefix, colon, first_line, Same}
+use Rattle.reader.specs.Reading.{At, Stuck, Read, no_fields, taken, over_piece, along}
+use Rattle.reader.specs.Line.{Unreadable, Line, taken_all, line_of, furthest, read_by, among_from, prefix, colon, first_line, Same}
 use Rattle.reader.proofs.Following.{stays as along-stays}
 
 -- ---- by one shape
@@ -139,13 +136,13 @@ line_same c k s = go (scanned c k s) (outcome (shape c k) 0 s [])
     )
 
 furthest-same : (s : List ℕ) (a b : Line) (a' b' : S.Line) → Same s a a' → Same s b b' → Same s (furthest a b) (S.furthest a' b')
-furthest-same s (Reads c k x n) b (S.reads d j ws l) b' p q = p
-furthest-same s (Reads c k x n) b (S.unreadable m) b' p q = absurd p
-furthest-same s (Unreadable n) b (S.reads d j ws l) b' p q = absurd p
-furthest-same s (Unreadable n) (Reads c k x m) (S.unreadable n') (S.reads d j ws l) p q = q
-furthest-same s (Unreadable n) (Reads c k x m) (S.unreadable n') (S.unreadable m') p q = absurd q
-furthest-same s (Unreadable n) (Unreadable m) (S.unreadable n') (S.reads d j ws l) p q = absurd q
-furthest-same s (Unreadable n) (Unreadable m) (S.unreadable n') (S.unreadable m') p q = λ i. cond (ltb (p i) (q i)) (q i) (p i)
+furthest-same s (Ok r) b (S.reads d j ws l) b' p q = p
+furthest-same s (Ok r) b (S.unreadable m) b' p q = absurd p
+furthest-same s (Err n) b (S.reads d j ws l) b' p q = absurd p
+furthest-same s (Err n) (Ok r) (S.unreadable n') (S.reads d j ws l) p q = q
+furthest-same s (Err n) (Ok r) (S.unreadable n') (S.unreadable m') p q = absurd q
+furthest-same s (Err n) (Err m) (S.unreadable n') (S.reads d j ws l) p q = absurd q
+furthest-same s (Err n) (Err m) (S.unreadable n') (S.unreadable m') p q = λ i. cond (ltb (p i) (q i)) (q i) (p i)
 
 among_same : (c : Bool) (from : ℕ) (n : ℕ) (s : List ℕ) → ((k : ℕ) → read_by from s k ≡ to_read k (scanned c k s)) → Same s (among_from c from n s) (S.among c n s)
 unfolding among_from S.among

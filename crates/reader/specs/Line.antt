@@ -1,14 +1,25 @@
 -- The first line of a text, as the reader finds it.
-use Rattle.std.specs.Prelude.{Bool, true, false, cond, List, [], ◌∷◌, ◌≡◌, ℕ, zero, suc, ◌≤◌, eqb, ltb, length, drop}
+use Rattle.std.specs.Prelude.{Result, Ok, Err, Bool, true, false, cond, List, [], ◌∷◌, ◌≡◌, ℕ, zero, suc, ◌≤◌, eqb, ltb, length, drop}
 use Rattle.assembly.specs.Lines.{Word}
 use Rattle.assembly.specs.Scanner as S
 use Rattle.reader.specs.declared.Fields.{Fields}
-use Rattle.reader.specs.declared.Read.{Read}
-use Rattle.reader.specs.declared.Read.TheVariants.{At, Stuck}
-use Rattle.reader.specs.declared.Line.{Line}
-use Rattle.reader.specs.declared.Line.TheVariants.{Reads, Unreadable}
+use Rattle.reader.specs.declared.Cursor.{Cursor}
+use Rattle.reader.specs.declared.Reading.{Reading}
 use Rattle.text.specs.Samples.{sample_line}
-use Rattle.reader.specs.Reading.{no_fields, taken, along}
+use Rattle.reader.specs.Reading.{Read, At, no_fields, taken, along}
+
+-- what the reader finds: a line, or the place of the first byte that can't continue a readable one
+abbrev pub Line : Type 0
+Line = Result Reading ℕ
+
+abbrev pub Reads : Bool → ℕ → Fields → ℕ → Line
+Reads c k x n = Ok (record { short = c; operation = k; fields = x; end = n })
+
+abbrev pub Unreadable : ℕ → Line
+Unreadable n = Err n
+
+abbrev pub reading : Bool → ℕ → Cursor → Reading
+reading short k c = record { short = short; operation = k; fields = c.fields; end = c.at }
 
 -- the fields after these numbers
 unfoldable pub taken_all : ℕ → List Word → Fields → Fields
@@ -16,13 +27,13 @@ taken_all k [] x = x
 taken_all k (w ∷ ws) x = taken_all k ws (taken k w x)
 
 abbrev pub line_of : Bool → ℕ → Read → Line
-line_of short k (At n x) = Reads short k x n
-line_of short k (Stuck n) = Unreadable n
+line_of short k (Ok c) = Ok (reading short k c)
+line_of short k (Err n) = Unreadable n
 
 abbrev pub furthest : Line → Line → Line
-furthest (Reads c k x n) other = Reads c k x n
-furthest (Unreadable m) (Reads c k x n) = Reads c k x n
-furthest (Unreadable m) (Unreadable n) = Unreadable (cond (ltb m n) n m)
+furthest (Ok r) other = Ok r
+furthest (Err m) (Ok r) = Ok r
+furthest (Err m) (Err n) = Unreadable (cond (ltb m n) n m)
 
 abbrev pub read_by : ℕ → List ℕ → ℕ → Read
 read_by from s k = along k (sample_line k) s (At from no_fields)
@@ -45,7 +56,7 @@ first_line s = furthest (among_from false 0 48 s) (cond (eqb (prefix s) 2) (amon
 
 -- what the reader finds, and what the line is
 abbrev pub Same : List ℕ → Line → S.Line → Type 0
-Same s (Reads c k x n) (S.reads d j ws rest) = (c ≡ d) × (k ≡ j) × (x ≡ taken_all j ws no_fields) × (rest ≡ drop n s) × (n ≤ length s)
-Same s (Reads c k x n) (S.unreadable m) = ⊥
-Same s (Unreadable n) (S.reads d j ws rest) = ⊥
-Same s (Unreadable n) (S.unreadable m) = n ≡ m
+Same s (Ok r) (S.reads d j ws rest) = (r.short ≡ d) × (r.operation ≡ j) × (r.fields ≡ taken_all j ws no_fields) × (rest ≡ drop r.end s) × (r.end ≤ length s)
+Same s (Ok r) (S.unreadable m) = ⊥
+Same s (Err n) (S.reads d j ws rest) = ⊥
+Same s (Err n) (S.unreadable m) = n ≡ m

@@ -1,43 +1,48 @@
 -- Reading by one shape, as the reader does it: with the fields so far in the place of the numbers so far.
-use Rattle.std.specs.Prelude.{Bool, true, false, cond, ◌&&◌, List, [], ◌∷◌, ℕ, ◌+◌, eqb, leb, ltb, drop}
-use Prim.Native.Char.{code}
+use Rattle.std.specs.Prelude.{Option, Some, None, Result, Ok, Err, Bool, false, cond, List, [], ◌∷◌, ℕ, ◌+◌, eqb, ltb, drop}
+use Rattle.std.specs.Option.{option_or}
 use Rattle.assembly.specs.Lines.{Piece, byte, field, piece_of, minus, Word, word}
 use Rattle.assembly.specs.Scanner.{numeral}
 use Rattle.assembly.specs.Numbers.{value_of, holds_imm, allowed}
-use Rattle.numerals.specs.declared.Number.{Number}
 use Rattle.reader.specs.declared.Fields.{Fields}
-use Rattle.reader.specs.declared.Read.{Read}
-use Rattle.reader.specs.declared.Read.TheVariants.{At, Stuck}
+use Rattle.reader.specs.declared.Cursor.{Cursor}
 use Rattle.numerals.specs.Numbers.{front}
 
-abbrev pub fields : ℕ → ℕ → ℕ → ℕ → Bool → ℕ → Fields
-fields d s t v wrong place = record { rd = d; rs1 = s; rs2 = t; imm = v; wrong = wrong; place = place }
+-- a place in the line, with the fields so far; or the place of a byte that can't go on
+abbrev pub Read : Type 0
+Read = Result Cursor ℕ
+
+abbrev pub At : ℕ → Fields → Read
+At n x = Ok (record { at = n; fields = x })
+
+abbrev pub Stuck : ℕ → Read
+Stuck n = Err n
+
+abbrev pub fields : ℕ → ℕ → ℕ → ℕ → Option ℕ → Fields
+fields d s t v wrong = record { rd = d; rs1 = s; rs2 = t; imm = v; wrong = wrong }
 
 abbrev pub no_fields : Fields
-no_fields = fields 0 0 0 0 false 0
+no_fields = fields 0 0 0 0 None
 
 -- a field with its value
 abbrev pub put : ℕ → ℕ → Fields → Fields
-put f v x = fields (cond (eqb 1 f) v x.rd) (cond (eqb 2 f) v x.rs1) (cond (eqb 3 f) v x.rs2) (cond (eqb 4 f) v x.imm) x.wrong x.place
+put f v x = fields (cond (eqb 1 f) v x.rd) (cond (eqb 2 f) v x.rs1) (cond (eqb 3 f) v x.rs2) (cond (eqb 4 f) v x.imm) x.wrong
 
 -- a wrong number at n; the leftmost counts
 abbrev pub fault : ℕ → Fields → Fields
-fault n x = fields x.rd x.rs1 x.rs2 x.imm true (cond x.wrong x.place n)
+fault n x = fields x.rd x.rs1 x.rs2 x.imm (option_or x.wrong (Some n))
 
 -- after a number
 abbrev pub taken : ℕ → Word → Fields → Fields
 taken k w x = cond (allowed k w) (put w.of (value_of w.of w.digits) x) (fault w.place x)
 
 -- .. as the reader holds it
-abbrev pub allowed_number : ℕ → ℕ → Number → Bool
-allowed_number k f n = n.good && cond (eqb f 4) (holds_imm k n.value) (ltb n.value 32)
+abbrev pub allowed_value : ℕ → ℕ → ℕ → Bool
+allowed_value k f v = cond (eqb f 4) (holds_imm k v) (ltb v 32)
 
-abbrev pub taken_number : ℕ → ℕ → ℕ → Number → Fields → Fields
-taken_number k f at n x = cond (allowed_number k f n) (put f n.value x) (fault at x)
-
--- which piece a byte of a sample stands for
-abbrev pub is_field : ℕ → Bool
-is_field b = leb (code "1") b && leb b (code "4")
+abbrev pub taken_number : ℕ → ℕ → ℕ → Option ℕ → Fields → Fields
+taken_number k f at (Some v) x = cond (allowed_value k f v) (put f v x) (fault at x)
+taken_number k f at None x = fault at x
 
 abbrev pub starts_with : ℕ → List ℕ → Bool
 starts_with b [] = false
@@ -55,8 +60,8 @@ over_piece k (byte b) l n x = over_byte b l n x
 over_piece k (field f) l n x = over_field k f l n x
 
 abbrev pub step_on : ℕ → Piece → List ℕ → Read → Read
-step_on k p s (At n x) = over_piece k p (drop n s) n x
-step_on k p s (Stuck n) = Stuck n
+step_on k p s (Ok c) = over_piece k p (drop c.at s) c.at c.fields
+step_on k p s (Err n) = Stuck n
 
 -- along the bytes of a sample
 unfoldable pub along : ℕ → List ℕ → List ℕ → Read → Read

@@ -1,243 +1,166 @@
 // Reading a line: a cursor goes along the text and along the sample of each operation's line.
 #![tactic(auto)]
 
-ghost use Rattle.std.specs.Prelude.{◌≡◌, cond, ◌≤◌, ◌<◌, ltb, length, drop};
+ghost use Rattle.std.specs.Prelude.{◌≡◌, ◌≤◌, ◌<◌, length, drop};
+ghost use Rattle.numerals.specs.Numbers.{digit_of};
 ghost use Rattle.text.specs.Samples.{sample_line};
-ghost use Rattle.reader.specs.Line.{among_from, prefix as Line·prefix, first_line};
-ghost use Rattle.reader.specs.Reading.{allowed_number, put as Reading·put, taken_number, is_field, starts_with, over_field, along, no_fields};
-ghost use Rattle.reader.specs.declared.Read.TheVariants.{At};
+ghost use Rattle.reader.specs.Line.{reading, among_from, prefix, first_line};
+ghost use Rattle.reader.specs.Reading.{At, allowed_value, put, fault, taken_number, starts_with, over_field, along, no_fields};
 
 use builder::built;
 use isa::Reg;
-use numerals::{Number, read_number};
+use numerals::{Field, read_number};
 use ranges::in_range;
 use text::sample_line;
 
 // The numbers of a line so far, by field, and the place of the leftmost wrong one.
-#[derive(Clone, Copy)]
+#[derive(Clone, Copy, Default)]
 pub struct Fields {
     pub rd: u32,
     pub rs1: u32,
     pub rs2: u32,
     pub imm: u32,
-    pub wrong: bool,
-    pub place: usize,
+    pub wrong: Option<usize>,
 }
 
 impl Fields {
-    const NONE: Fields = Fields {
-        rd: 0,
-        rs1: 0,
-        rs2: 0,
-        imm: 0,
-        wrong: false,
-        place: 0,
-    };
+    fn with(self, field: Field, value: u32) -> Fields
+        ensures { result ≡ put (digit_of field) value self }
+    {
+        match field {
+            Field::Rd => Fields { rd: value, ..self },
+            Field::Rs1 => Fields { rs1: value, ..self },
+            Field::Rs2 => Fields { rs2: value, ..self },
+            Field::Imm => Fields { imm: value, ..self },
+        }
+    }
+
+    fn with_wrong(self, at: usize) -> Fields
+        ensures { result ≡ fault at self }
+    {
+        Fields {
+            wrong: self.wrong.or(Some(at)),
+            ..self
+        }
+    }
+
+    // After a number that begins at a place, and that has a value or is none that numbers have.
+    fn after_number(self, operation: u8, field: Field, at: usize, number: Option<u32>) -> Fields
+        ensures { result ≡ taken_number operation (digit_of field) at number self }
+    {
+        match number {
+            Some(value) if is_allowed(operation, field, value) => self.with(field, value),
+            _ => self.with_wrong(at),
+        }
+    }
 }
 
-// A place in the line, with the fields so far; or the place of a byte that can't go on.
+// How far a line was read: the place, and the fields so far.
 #[derive(Clone, Copy)]
-pub enum Read {
-    At(usize, Fields),
-    Stuck(usize),
+pub struct Cursor {
+    pub at: usize,
+    pub fields: Fields,
 }
 
-// The first line of a text: with c: or not, its operation, its fields and the place after it; or the
-// place of the first byte that can not continue a readable line.
+// A line that was read: with c: or not, its operation, by its place in the table of lines, its fields and
+// the place after it.
 #[derive(Clone, Copy)]
-pub enum Line {
-    Reads(bool, u8, Fields, usize),
-    Unreadable(usize),
+pub struct Reading {
+    pub short: bool,
+    pub operation: u8,
+    pub fields: Fields,
+    pub end: usize,
 }
 
-// Whether an operation takes a number in a field.
-fn allowed(operation: u8, field: u8, number: Number) -> bool
-    ensures { result ≡ allowed_number operation field number }
-{
-    if !number.good {
-        return false;
-    }
-    let value = number.value;
-    if field == 4 {
-        return in_range(built(operation, Reg::ZERO, Reg::ZERO, Reg::ZERO, value));
-    }
-    value < 32
-}
-
-fn pick(yes: bool, new: u32, old: u32) -> u32
-    ensures { result ≡ cond yes new old }
-{
-    if yes {
-        return new;
-    }
-    old
-}
-
-fn put(fields: Fields, field: u8, value: u32) -> Fields
-    ensures { result ≡ Reading·put field value fields }
-{
-    let rd = pick(1 == field, value, fields.rd);
-    let rs1 = pick(2 == field, value, fields.rs1);
-    let rs2 = pick(3 == field, value, fields.rs2);
-    let imm = pick(4 == field, value, fields.imm);
-    let wrong = fields.wrong;
-    let place = fields.place;
-    Fields {
-        rd,
-        rs1,
-        rs2,
-        imm,
-        wrong,
-        place,
+impl Cursor {
+    // The line of an operation that ends here.
+    fn line(self, short: bool, operation: u8) -> Reading
+        ensures { result ≡ reading short operation self }
+    {
+        Reading {
+            short,
+            operation,
+            fields: self.fields,
+            end: self.at,
+        }
     }
 }
 
-// The place of the leftmost wrong number, where there may be one before that at `at`.
-fn leftmost(wrong: bool, place: usize, at: usize) -> usize
-    ensures { result ≡ cond wrong place at }
+// Whether an operation takes a value in a field.
+fn is_allowed(operation: u8, field: Field, value: u32) -> bool
+    ensures { result ≡ allowed_value operation (digit_of field) value }
 {
-    if wrong {
-        return place;
+    match field {
+        Field::Imm => in_range(built(operation, Reg::ZERO, Reg::ZERO, Reg::ZERO, value)),
+        Field::Rd | Field::Rs1 | Field::Rs2 => value < 32,
     }
-    at
-}
-
-// The fields after a number that begins at a place.
-fn taken(fields: Fields, operation: u8, field: u8, at: usize, number: Number) -> Fields
-    ensures { result ≡ taken_number operation field at number fields }
-{
-    if allowed(operation, field, number) {
-        return put(fields, field, number.value);
-    }
-    let rd = fields.rd;
-    let rs1 = fields.rs1;
-    let rs2 = fields.rs2;
-    let imm = fields.imm;
-    let place = leftmost(fields.wrong, fields.place, at);
-    Fields {
-        rd,
-        rs1,
-        rs2,
-        imm,
-        wrong: true,
-        place,
-    }
-}
-
-// Whether a byte of a sample line stands for the number of a field.
-fn is_field(piece: u8) -> bool
-    ensures { result ≡ is_field piece }
-{
-    if piece < b'1' {
-        return false;
-    }
-    piece <= b'4'
 }
 
 // Whether a byte stands at a place.
 fn stands(text: &[u8], at: usize, byte: u8) -> bool
     ensures { result ≡ starts_with byte (drop at text.now) }
 {
-    if at >= text.len() {
-        return false;
-    }
-    text[at] == byte
+    text.get(at) == Some(&byte)
 }
 
-// Over the number of a field.
-fn over_field(text: &[u8], at: usize, fields: Fields, operation: u8, field: u8) -> Read
-    requires { at ≤ length text.now }
-    ensures { result ≡ over_field operation field (drop at text.now) at fields }
+// Over the number of a field, or the place of a byte that can't go on.
+fn over_field(text: &[u8], cursor: Cursor, operation: u8, field: Field) -> Result<Cursor, usize>
+    requires { cursor.at ≤ length text.now }
+    ensures { result ≡ over_field operation (digit_of field) (drop cursor.at text.now) cursor.at cursor.fields }
 {
-    let number = read_number(text, at, field);
-    if !number.any {
-        return Read::Stuck(number.end);
-    }
-    Read::At(number.end, taken(fields, operation, field, at, number))
+    let number = read_number(text, cursor.at, field.number())?;
+    Ok(Cursor {
+        at: number.end,
+        fields: cursor
+            .fields
+            .after_number(operation, field, cursor.at, number.value),
+    })
 }
 
-// Along the line of an operation, from a place of the text on.
-fn follow(text: &[u8], from: usize, operation: u8) -> Read
+// Along the line of an operation, from a place of the text on; or the place of a byte that can't go
+// on.
+fn follow(text: &[u8], from: usize, operation: u8) -> Result<Cursor, usize>
     requires { (from ≤ length text.now) × (operation < 48) }
     ensures { result ≡ along operation (sample_line operation) text.now (At from no_fields) }
 {
-    let line = sample_line(operation);
-    let mut at = from;
-    let mut fields = Fields::NONE;
-    let mut j = 0;
-    while j < 16 {
-        let piece = line[j];
-        if piece == 0 {
-            return Read::At(at, fields);
-        }
-        j += 1;
-        if is_field(piece) {
-            match over_field(text, at, fields, operation, piece - b'0') {
-                Read::Stuck(n) => {
-                    return Read::Stuck(n);
-                }
-                Read::At(n, more) => {
-                    at = n;
-                    fields = more;
-                }
-            }
-        } else {
-            if !stands(text, at, piece) {
-                return Read::Stuck(at);
-            }
-            at += 1;
+    let mut cursor = Cursor {
+        at: from,
+        fields: Fields::default(),
+    };
+    for &piece in sample_line(operation) {
+        match Field::of_sample(piece) {
+            Some(field) => cursor = over_field(text, cursor, operation, field)?,
+            None if stands(text, cursor.at, piece) => cursor.at += 1,
+            None => return Err(cursor.at),
         }
     }
-    Read::At(at, fields)
-}
-
-fn larger(a: usize, b: usize) -> usize
-    ensures { result ≡ cond (ltb a b) b a }
-{
-    if a < b {
-        return b;
-    }
-    a
+    Ok(cursor)
 }
 
 // The line that one of the operations reads from a place on, or the place that none goes beyond.
-fn among(text: &[u8], from: usize, short: bool) -> Line
+fn among(text: &[u8], from: usize, short: bool) -> Result<Reading, usize>
     requires { from ≤ length text.now }
     ensures { result ≡ among_from short from 48 text.now }
 {
-    let mut k: u8 = 0;
-    let mut place: usize = 0;
-    while k < 48 {
-        match follow(text, from, k) {
-            Read::At(n, fields) => {
-                return Line::Reads(short, k, fields, n);
-            }
-            Read::Stuck(n) => {
-                place = larger(place, n);
-                k += 1;
-            }
+    let mut furthest = 0;
+    for operation in 0..48 {
+        match follow(text, from, operation) {
+            Ok(cursor) => return Ok(cursor.line(short, operation)),
+            Err(at) => furthest = at.max(furthest),
         }
     }
-    Line::Unreadable(place)
+    Err(furthest)
 }
 
 // How many bytes of c: are in front.
 fn prefix(text: &[u8]) -> usize
-    ensures { result ≡ Line·prefix text.now }
+    ensures { result ≡ prefix text.now }
 {
-    if text.len() == 0 {
-        return 0;
+    match text {
+        [b'c', b':', ..] => 2,
+        [b'c', ..] => 1,
+        _ => 0,
     }
-    if text[0] != b'c' {
-        return 0;
-    }
-    if text.len() == 1 {
-        return 1;
-    }
-    if text[1] != b':' {
-        return 1;
-    }
-    2
 }
 
 // For each sum that `guess` makes of a line's first bytes the operation whose name makes it, and 0
@@ -257,10 +180,7 @@ const GUESSES: [u8; 128] = *b"\
 fn low_bits(text: &[u8], at: usize) -> usize
     ensures { result < 128 }
 {
-    if at >= text.len() {
-        return 0;
-    }
-    (text[at] % 128) as usize
+    text.get(at).map_or(0, |byte| usize::from(*byte % 128))
 }
 
 // The operation that the line in front probably has. Of the fifth and the sixth byte only whether
@@ -275,33 +195,30 @@ fn guess(text: &[u8]) -> u8
 }
 
 // The first line of a text, sought among all operations, without c: and with it.
-fn search(text: &[u8]) -> Line
+fn search(text: &[u8]) -> Result<Reading, usize>
     ensures { result ≡ first_line text.now }
 {
-    let long = among(text, 0, false);
-    let Line::Unreadable(p) = long else {
-        return long;
+    let plain = among(text, 0, false);
+    let Err(stuck) = plain else {
+        return plain;
     };
-    let n = prefix(text);
-    if n < 2 {
-        return Line::Unreadable(larger(p, n));
+    let colon = prefix(text);
+    if colon < 2 {
+        return Err(colon.max(stuck));
     }
-    let short = among(text, 2, true);
-    let Line::Unreadable(q) = short else {
-        return short;
-    };
-    Line::Unreadable(larger(p, q))
+    among(text, 2, true).map_err(|at| at.max(stuck))
 }
 
-// The first line of a text. The guess reads most lines; only the search tells where one is stuck.
-pub fn first_line(text: &[u8]) -> Line
+// The first line of a text, or the place of the first byte that can not continue a readable line. The
+// guess reads most lines; only the search tells where one is stuck.
+pub fn first_line(text: &[u8]) -> Result<Reading, usize>
     ensures { result ≡ first_line text.now }
 {
     let short = prefix(text) == 2;
-    let from = short as usize * 2;
+    let from = if short { 2 } else { 0 };
     let operation = guess(&text[from..]);
     match follow(text, from, operation) {
-        Read::At(n, fields) => Line::Reads(short, operation, fields, n),
-        Read::Stuck(_) => search(text),
+        Ok(cursor) => Ok(cursor.line(short, operation)),
+        Err(_) => search(text),
     }
 }

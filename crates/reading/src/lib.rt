@@ -5,7 +5,8 @@ ghost use Rattle.std.specs.Prelude.{◌≡◌, ◌≤◌, IfOk, length};
 
 use std::io::{self, Read};
 
-// Reads until the room is full or the input ends, and answers how many bytes stand at its front.
+// Reads until the room is full or the input ends, and answers how many bytes stand at its front. A read
+// may give any number of bytes, and `read_exact` does not tell how many it had where the input ends.
 pub fn read_full<R: Read>(input: &mut R, room: &mut [u8]) -> io::Result<usize>
     ensures in_room { IfOk result (λ n. n ≤ length room.new) }
     ensures same_length { length room.new ≡ length room.old }

@@ -15,11 +15,11 @@ use Rattle.word.specs.Bounds.{AllBelow}
 use Rattle.state.specs.Sizes.{Fits}
 use Rattle.state.specs.States.{state, well_formed}
 use Rattle.state.proofs.Laws.{formed_nowhere, form_passes}
-use Rattle.answers.specs.declared.Check.TheVariants.{Passed}
 use lib.Dec.{eqb}
 use Rattle.answers.specs.Stops.{last_stop}
 use Rattle.word.proofs.Bounds.{below_drop}
 use Rattle.records.specs.Records.{words, of_words, record_of, state_of, record_checked}
+use Rattle.answers.specs.Checks.{passed}
 
 -- ---- writing
 
@@ -159,7 +159,7 @@ read_back s h =
     rw (pc, x, count, stop, address)
 
 -- it may be read where its state is well-formed
-pub record_sound : (s : State) → Fits s → well_formed s ≡ true → record_checked (record_of s) ≡ Passed
+pub record_sound : (s : State) → Fits s → well_formed s ≡ true → record_checked (record_of s) ≡ passed
 record_sound s h w = rw (read_back s h) (form_passes (eqb (load 3 137 (record_of s)) 0) s (rw (rest_zero s h.x_length)) w)
 
 -- ---- bytes read and written back
@@ -232,7 +232,7 @@ bytes_fit m h = record {
 -- ---- records whose bytes 137 to 143 are all zero
 
 pub old_record : (m : List ℕ) → length m ≡ 144 → load 4 0 m % 2 ≡ 0 → load 1 136 m ≤ last_stop → load 7 137 m ≡ 0
-    → (record_checked m ≡ Passed) × (state_of m ≡ state (load 4 0 m) (of_words 31 (drop 4 m)) (load 8 128 m) (load 1 136 m) 0)
+    → (record_checked m ≡ passed) × (state_of m ≡ state (load 4 0 m) (of_words 31 (drop 4 m)) (load 8 128 m) (load 1 136 m) 0)
 unfolding state_of
 old_record m l even known z =
     let sum = load-add 3 4 137 m (omega arith) in

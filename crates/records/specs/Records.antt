@@ -1,9 +1,9 @@
 -- A state's record of 144 bytes: 0 to 3 pc, 4 to 127 x1 to x31, 128 to 135 the retired count, 136 the stop number, 137 to 139 zero, 140 to 143 the address; all little-endian.
 use Rattle.std.specs.Prelude.{ℕ, zero, suc, List, [], ◌∷◌, ◌++◌, take, drop, eqb}
-use Rattle.answers.specs.declared.Check.{Check}
 use Rattle.octets.specs.Bytes.{little_endian, of_little_endian, load}
 use Rattle.state.specs.declared.State.{State}
 use Rattle.state.specs.States.{state, form_checked}
+use Rattle.answers.specs.Checks.{Check}
 
 -- numbers as four bytes each, one after the other
 unfoldable pub words : List ℕ → List ℕ

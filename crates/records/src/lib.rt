@@ -4,58 +4,50 @@
 ghost use Rattle.std.specs.Prelude.{◌≡◌, length};
 ghost use Rattle.records.specs.Records.{record_of, state_of, record_checked};
 
-use answers::Check;
-use octets::{load4, load8};
+use answers::Refusal;
+use octets::load;
 use state::State;
-use stores::{store4, store8};
+use stores::store;
 
-// A state into its record, and nothing beside it.
+// A state into its record, and nothing beside it. The part is a slice of the caller's slots, so its length
+// is asked for and not a type.
 pub fn write_record(part: &mut [u8], s: State)
     requires { length part.old ≡ 144 }
     ensures { part.new ≡ record_of s }
 {
-    let x = s.x;
-    store4(part, 0, s.pc);
-    let mut i: usize = 0;
-    while i < 31 {
-        store4(part, 4 + 4 * i, x[i]);
-        i += 1;
+    store::<4>(part, 0, u64::from(s.pc));
+    for (i, x) in s.x.iter().enumerate() {
+        store::<4>(part, 4 + 4 * i, u64::from(*x));
     }
-    store8(part, 128, s.count);
+    store::<8>(part, 128, s.count);
     // the stop number, and three zeros after it
-    store4(part, 136, s.stop as u32);
-    store4(part, 140, s.address);
+    store::<4>(part, 136, u64::from(s.stop));
+    store::<4>(part, 140, u64::from(s.address));
 }
 
 pub fn read_record(part: &[u8]) -> State
     requires { length part.now ≡ 144 }
     ensures { result ≡ state_of part.now }
 {
-    let mut x = [0u32; 31];
-    let mut i: usize = 0;
-    while i < 31 {
-        x[i] = load4(part, 4 + 4 * i);
-        i += 1;
+    let mut x = [0; 31];
+    for (i, register) in x.iter_mut().enumerate() {
+        *register = load::<4>(part, 4 + 4 * i) as u32;
     }
-    let pc = load4(part, 0);
-    let count = load8(part, 128);
-    let stop = part[136];
-    let address = load4(part, 140);
     State {
-        pc,
+        pc: load::<4>(part, 0) as u32,
         x,
-        count,
-        stop,
-        address,
+        count: load::<8>(part, 128),
+        stop: part[136],
+        address: load::<4>(part, 140) as u32,
     }
 }
 
 // Whether the record may be read: refusals 5, 14 and 15.
-pub fn check_record(part: &[u8]) -> Check
+pub fn check_record(part: &[u8]) -> Result<(), Refusal>
     requires { length part.now ≡ 144 }
     ensures { result ≡ record_checked part.now }
 {
     // the stop number, and three bytes after it
-    let zeros = load4(part, 136) / 256 == 0;
+    let zeros = load::<4>(part, 136) / 256 == 0;
     read_record(part).check(zeros)
 }

@@ -17,35 +17,35 @@ use Rattle.isa.specs.declared.ImmOp.{ImmOp}
 use Rattle.isa.specs.declared.ImmOp.TheVariants.{Addi, Slti, Sltiu, Xori, Ori, Andi}
 use Rattle.isa.specs.declared.ShiftOp.{ShiftOp}
 use Rattle.isa.specs.declared.ArithOp.{ArithOp}
-use Rattle.isa.specs.declared.Decoded.{Decoded}
-use Rattle.isa.specs.declared.Decoded.TheVariants.{Legal, Illegal}
 use Rattle.roundtrip.proofs.Digits.{value, Has, value_has}
 use Rattle.roundtrip.proofs.Operands.{kept, again, field_ok, imm_has, imm_ok, even_ok_lem}
 use Rattle.roundtrip.proofs.Formats.{format_r, format_i, format_s, format_b, format_u, format_j, digits_i, digits_s, digits_b, digits_j, digits_of}
+use Rattle.isa.specs.declared.Inst.{Inst}
+use Rattle.std.specs.Prelude.{None, Option, Some}
 
 -- what is said of the meaning of w
-abbrev pub Good : ℕ → Decoded → Type 0
-Good w (Legal i) = T (in_range i) × Has w (digits_of i)
-Good w Illegal = Unit {0}
+abbrev pub Good : ℕ → Option Inst → Type 0
+Good w (Some i) = T (in_range i) × Has w (digits_of i)
+Good w None = Unit {0}
 
 -- ---- tables of operations: each row's code passes a test with its operation, as antt computes
 
 module _ {A : Type 0} (w : ℕ) where
-  by_test : (p : ℕ → A → Bool) (t : List (ℕ × A)) (k : ℕ) (f : A → Decoded) → T (passes p t) → ((o : A) → T (p k o) → Good w (f o))
-      → Good w (find Illegal t k f)
-  by_test = found_passing (Good w) Illegal tt
+  by_test : (p : ℕ → A → Bool) (t : List (ℕ × A)) (k : ℕ) (f : A → Option Inst) → T (passes p t) → ((o : A) → T (p k o) → Good w (f o))
+      → Good w (find None t k f)
+  by_test = found_passing (Good w) None tt
 
   -- the row's code is the operation's
-  by_code : (code : A → ℕ) (t : List (ℕ × A)) (k : ℕ) (f : A → Decoded) → T (passes (λ k o. eqb k (code o)) t) → ((o : A) → k ≡ code o → Good w (f o))
-      → Good w (find Illegal t k f)
+  by_code : (code : A → ℕ) (t : List (ℕ × A)) (k : ℕ) (f : A → Option Inst) → T (passes (λ k o. eqb k (code o)) t) → ((o : A) → k ≡ code o → Good w (f o))
+      → Good w (find None t k f)
   by_code code t k f ok g = by_test (λ k o. eqb k (code o)) t k f ok (λ o q. g o (eqb→eq k (code o) q))
 
 -- .. and its other code is c, all down the table
 abbrev coded : {A : Type 0} → (A → ℕ) → (A → ℕ) → ℕ → ℕ → A → Bool
 coded code other c k o = eqb k (code o) && eqb c (other o)
 
-by_codes : {A : Type 0} (w : ℕ) (code other : A → ℕ) (c : ℕ) (t : List (ℕ × A)) (k : ℕ) (f : A → Decoded) → T (passes (coded code other c) t)
-    → ((o : A) → k ≡ code o → c ≡ other o → Good w (f o)) → Good w (find Illegal t k f)
+by_codes : {A : Type 0} (w : ℕ) (code other : A → ℕ) (c : ℕ) (t : List (ℕ × A)) (k : ℕ) (f : A → Option Inst) → T (passes (coded code other c) t)
+    → ((o : A) → k ≡ code o → c ≡ other o → Good w (f o)) → Good w (find None t k f)
 by_codes w code other c t k f ok g =
     by_test w (coded code other c) t k f ok
     (λ o q. g o
@@ -110,17 +110,17 @@ module _ (w : ℕ) where
   branch_good : opcode w ≡ 0b1100011 → Good w (decode_branch (funct3 w) (rs1 w) (rs2 w) (imm_b w))
   unfolding in_range
   branch_good e =
-      by_code w cond_code branches (funct3 w) (λ o. Legal (Branch o (rs1 w) (rs2 w) (imm_b w))) tt (λ o e₃. b_good w (cond_code o) 0b1100011 e₃ e)
+      by_code w cond_code branches (funct3 w) (λ o. Some (Branch o (rs1 w) (rs2 w) (imm_b w))) tt (λ o e₃. b_good w (cond_code o) 0b1100011 e₃ e)
 
   load-good : opcode w ≡ 0b0000011 → Good w (decode_load (funct3 w) (rd w) (rs1 w) (imm_i w))
   unfolding in_range
-  load-good e = by_code w load_code loads (funct3 w) (λ o. Legal (Load o (rd w) (rs1 w) (imm_i w))) tt (λ o e₃. signed-good w (load_code o) 0b0000011 e₃ e)
+  load-good e = by_code w load_code loads (funct3 w) (λ o. Some (Load o (rd w) (rs1 w) (imm_i w))) tt (λ o e₃. signed-good w (load_code o) 0b0000011 e₃ e)
 
   store-good : opcode w ≡ 0b0100011 → Good w (decode_store (funct3 w) (rs1 w) (rs2 w) (imm_s w))
   unfolding in_range
-  store-good e = by_code w store_code stores (funct3 w) (λ o. Legal (Store o (rs1 w) (rs2 w) (imm_s w))) tt (λ o e₃. s_good w (store_code o) 0b0100011 e₃ e)
+  store-good e = by_code w store_code stores (funct3 w) (λ o. Some (Store o (rs1 w) (rs2 w) (imm_s w))) tt (λ o e₃. s_good w (store_code o) 0b0100011 e₃ e)
 
-  imm_good : opcode w ≡ 0b0010011 → (o : ImmOp) → funct3 w ≡ imm_code o → Good w (Legal (Imm o (rd w) (rs1 w) (imm_i w)))
+  imm_good : opcode w ≡ 0b0010011 → (o : ImmOp) → funct3 w ≡ imm_code o → Good w (Some (Imm o (rd w) (rs1 w) (imm_i w)))
   unfolding in_range
   imm_good e o e₃ = signed-good w (imm_code o) 0b0010011 e₃ e
 
@@ -129,12 +129,12 @@ module _ (w : ℕ) where
       → Good w (decode_shift t (funct7 w) (rd w) (rs1 w) (shamt w))
   unfolding in_range
   shift-good t f3 ok e e₃ =
-      by_codes w shift_code7 shift_code f3 t (funct7 w) (λ o. Legal (Shift o (rd w) (rs1 w) (shamt w))) ok
+      by_codes w shift_code7 shift_code f3 t (funct7 w) (λ o. Some (Shift o (rd w) (rs1 w) (shamt w))) ok
       (λ o e₇ is. r_good w (shift_code7 o) (shift_code o) 0b0010011 e₇ (e₃ ∙ is) e)
 
   immediate_good : opcode w ≡ 0b0010011 → Good w (decode_immediate (funct3 w) (funct7 w) (rd w) (rs1 w) (shamt w) (imm_i w))
   immediate_good e =
-      found (Good w) Illegal tt (immediates (funct7 w) (rd w) (rs1 w) (shamt w) (imm_i w)) (funct3 w) (λ m. m)
+      found (Good w) None tt (immediates (funct7 w) (rd w) (rs1 w) (shamt w) (imm_i w)) (funct3 w) (λ m. m)
       (imm_good e Addi
       and imm_good e Slti
       and imm_good e Sltiu
@@ -150,38 +150,38 @@ module _ (w : ℕ) where
       → Good w (decode_arith t (funct3 w) (rd w) (rs1 w) (rs2 w))
   unfolding in_range
   arith-good t f7 ok e e₇ =
-      by_codes w arith_code arith_code7 f7 t (funct3 w) (λ o. Legal (Arith o (rd w) (rs1 w) (rs2 w))) ok
+      by_codes w arith_code arith_code7 f7 t (funct3 w) (λ o. Some (Arith o (rd w) (rs1 w) (rs2 w))) ok
       (λ o e₃ is. r_good w (arith_code7 o) (arith_code o) 0b0110011 (e₇ ∙ is) e₃ e)
 
   mul_div_good : opcode w ≡ 0b0110011 → funct7 w ≡ 0b0000001 → Good w (decode_mul_div (funct3 w) (rd w) (rs1 w) (rs2 w))
   unfolding in_range
   mul_div_good e e₇ =
-      by_code w mul_div_code mul_divs (funct3 w) (λ o. Legal (MulDiv o (rd w) (rs1 w) (rs2 w))) tt (λ o e₃. r_good w 0b0000001 (mul_div_code o) 0b0110011 e₇ e₃ e)
+      by_code w mul_div_code mul_divs (funct3 w) (λ o. Some (MulDiv o (rd w) (rs1 w) (rs2 w))) tt (λ o e₃. r_good w 0b0000001 (mul_div_code o) 0b0110011 e₇ e₃ e)
 
   register-good : opcode w ≡ 0b0110011 → Good w (decode_register (funct7 w) (funct3 w) (rd w) (rs1 w) (rs2 w))
   register-good e =
-      found (Good w) Illegal tt (registers (funct3 w) (rd w) (rs1 w) (rs2 w)) (funct7 w) (λ m. m)
+      found (Good w) None tt (registers (funct3 w) (rd w) (rs1 w) (rs2 w)) (funct7 w) (λ m. m)
       (arith-good ariths 0b0000000 tt e and arith-good others 0b0100000 tt e and mul_div_good e and tt)
 
   -- a table of one row
-  only : (k : ℕ) (m : Decoded) → (funct3 w ≡ k → Good w m) → Good w (find Illegal ((k, m) ∷ []) (funct3 w) (λ m. m))
-  only k m g = found (Good w) Illegal tt ((k, m) ∷ []) (funct3 w) (λ m. m) (g and tt)
+  only : (k : ℕ) (m : Option Inst) → (funct3 w ≡ k → Good w m) → Good w (find None ((k, m) ∷ []) (funct3 w) (λ m. m))
+  only k m g = found (Good w) None tt ((k, m) ∷ []) (funct3 w) (λ m. m) (g and tt)
 
   jalr_good : opcode w ≡ 0b1100111 → Good w (decode_jalr (funct3 w) (rd w) (rs1 w) (imm_i w))
   unfolding in_range
-  jalr_good e = only 0b000 (Legal (Jalr (rd w) (rs1 w) (imm_i w))) (λ e₃. signed-good w 0b000 0b1100111 e₃ e)
+  jalr_good e = only 0b000 (Some (Jalr (rd w) (rs1 w) (imm_i w))) (λ e₃. signed-good w 0b000 0b1100111 e₃ e)
 
   fence_good : opcode w ≡ 0b0001111 → Good w (decode_fence (funct3 w) (rd w) (rs1 w) (funct12 w))
   unfolding in_range
   fence_good e =
-      only 0b000 (Legal (Fence (rd w) (rs1 w) (funct12 w)))
+      only 0b000 (Some (Fence (rd w) (rs1 w) (funct12 w)))
       (λ e₃. i_good w (funct12 w) 0b000 0b0001111 (ltb (funct12 w) (2 ^ 12)) (field_ok (w / 2 ^ 20) 12) (again (w / 2 ^ 20) 12) e₃ e)
 
   -- the instructions that are one whole word each
   system_good : Good w (decode_system w)
   unfolding in_range
   system_good =
-      by_test w (λ k i. in_range i && eqb (value (digits_of i)) k) systems w (λ i. Legal i) tt
+      by_test w (λ k i. in_range i && eqb (value (digits_of i)) k) systems w (λ i. Some i) tt
       (λ i q. (
         and_left (in_range i) (eqb (value (digits_of i)) w) q,
         subst (λ (v : ℕ). Has v (digits_of i)) (eqb→eq (value (digits_of i)) w (and_right (in_range i) (eqb (value (digits_of i)) w) q)) (value_has (digits_of i)),
@@ -190,7 +190,7 @@ module _ (w : ℕ) where
   pub means : Good w (decoded w)
   unfolding decoded in_range
   means =
-      found (Good w) Illegal tt (opcodes w) (opcode w) (λ m. m)
+      found (Good w) None tt (opcodes w) (opcode w) (λ m. m)
       (u_good w 0b0110111
       and u_good w 0b0010111
       and j_good w 0b1101111

@@ -28,15 +28,14 @@ use Rattle.isa.specs.declared.ArithOp.{ArithOp}
 use Rattle.isa.specs.declared.ArithOp.TheVariants.{Add, Sub, Sll, Slt, Sltu, Xor, Srl, Sra, Or, And}
 use Rattle.isa.specs.declared.MulDivOp.{MulDivOp}
 use Rattle.isa.specs.declared.MulDivOp.TheVariants.{Mul, Mulh, Mulhsu, Mulhu, Div, Divu, Rem, Remu}
-use Rattle.isa.specs.declared.Decoded.{Decoded}
-use Rattle.isa.specs.declared.Decoded.TheVariants.{Legal, Illegal}
 use Rattle.roundtrip.proofs.Digits.{Has, whole}
 use Rattle.roundtrip.proofs.Operands.{field_is, imm_is, even_is}
 use Rattle.roundtrip.proofs.Formats.{format_r, format_i, format_u, digits_i, digits_s, digits_b, digits_j, digits_of}
+use Rattle.std.specs.Prelude.{None, Option, Some}
 
 -- ---- the operations, by their codes
 
-branch_is : (o : Cond) (s t : Reg) (imm : ℕ) → decode_branch (low 3 (cond_code o)) s t imm ≡ Legal (Branch o s t imm)
+branch_is : (o : Cond) (s t : Reg) (imm : ℕ) → decode_branch (low 3 (cond_code o)) s t imm ≡ Some (Branch o s t imm)
 branch_is Beq s t imm = refl
 branch_is Bne s t imm = refl
 branch_is Blt s t imm = refl
@@ -44,19 +43,19 @@ branch_is Bge s t imm = refl
 branch_is Bltu s t imm = refl
 branch_is Bgeu s t imm = refl
 
-load_is : (o : LoadOp) (d s : Reg) (imm : ℕ) → decode_load (low 3 (load_code o)) d s imm ≡ Legal (Load o d s imm)
+load_is : (o : LoadOp) (d s : Reg) (imm : ℕ) → decode_load (low 3 (load_code o)) d s imm ≡ Some (Load o d s imm)
 load_is Lb d s imm = refl
 load_is Lh d s imm = refl
 load_is Lw d s imm = refl
 load_is Lbu d s imm = refl
 load_is Lhu d s imm = refl
 
-store_is : (o : StoreOp) (s t : Reg) (imm : ℕ) → decode_store (low 3 (store_code o)) s t imm ≡ Legal (Store o s t imm)
+store_is : (o : StoreOp) (s t : Reg) (imm : ℕ) → decode_store (low 3 (store_code o)) s t imm ≡ Some (Store o s t imm)
 store_is Sb s t imm = refl
 store_is Sh s t imm = refl
 store_is Sw s t imm = refl
 
-immediate_is : (o : ImmOp) (f7 : ℕ) (d s : Reg) (amount imm : ℕ) → decode_immediate (low 3 (imm_code o)) f7 d s amount imm ≡ Legal (Imm o d s imm)
+immediate_is : (o : ImmOp) (f7 : ℕ) (d s : Reg) (amount imm : ℕ) → decode_immediate (low 3 (imm_code o)) f7 d s amount imm ≡ Some (Imm o d s imm)
 immediate_is Addi f7 d s amount imm = refl
 immediate_is Slti f7 d s amount imm = refl
 immediate_is Sltiu f7 d s amount imm = refl
@@ -65,12 +64,12 @@ immediate_is Ori f7 d s amount imm = refl
 immediate_is Andi f7 d s amount imm = refl
 
 shift_is : (o : ShiftOp) (d s : Reg) (amount imm : ℕ)
-    → decode_immediate (low 3 (shift_code o)) (low 7 (shift_code7 o)) d s amount imm ≡ Legal (Shift o d s amount)
+    → decode_immediate (low 3 (shift_code o)) (low 7 (shift_code7 o)) d s amount imm ≡ Some (Shift o d s amount)
 shift_is Slli d s amount imm = refl
 shift_is Srli d s amount imm = refl
 shift_is Srai d s amount imm = refl
 
-arith_is : (o : ArithOp) (d s t : Reg) → decode_register (low 7 (arith_code7 o)) (low 3 (arith_code o)) d s t ≡ Legal (Arith o d s t)
+arith_is : (o : ArithOp) (d s t : Reg) → decode_register (low 7 (arith_code7 o)) (low 3 (arith_code o)) d s t ≡ Some (Arith o d s t)
 arith_is Add d s t = refl
 arith_is Sub d s t = refl
 arith_is Sll d s t = refl
@@ -82,7 +81,7 @@ arith_is Sra d s t = refl
 arith_is Or d s t = refl
 arith_is And d s t = refl
 
-mul_div_is : (o : MulDivOp) (d s t : Reg) → decode_register 0b0000001 (low 3 (mul_div_code o)) d s t ≡ Legal (MulDiv o d s t)
+mul_div_is : (o : MulDivOp) (d s t : Reg) → decode_register 0b0000001 (low 3 (mul_div_code o)) d s t ≡ Some (MulDiv o d s t)
 mul_div_is Mul d s t = refl
 mul_div_is Mulh d s t = refl
 mul_div_is Mulhsu d s t = refl
@@ -115,12 +114,12 @@ with_reg c x r e f ok i = (reg (field_is x 5 r.number (and_left (reg_ok r) c ok)
 
 -- ---- what the word means, by its format: f is the row of the opcode, at what the fields hold
 
-row : (w op : ℕ) → opcode w ≡ op → decoded w ≡ find Illegal (opcodes w) op (λ m. m)
+row : (w op : ℕ) → opcode w ≡ op → decoded w ≡ find None (opcodes w) op (λ m. m)
 unfolding decoded
-row w op e = ap (λ (k : ℕ). find Illegal (opcodes w) k (λ m. m)) e
+row w op e = ap (λ (k : ℕ). find None (opcodes w) k (λ m. m)) e
 
-r_means : (w f7 f3 op : ℕ) (d s t : Reg) (f : ℕ → ℕ → Reg → Reg → Reg → Decoded)
-    → find Illegal (opcodes w) (low 7 op) (λ m. m) ≡ f (funct7 w) (funct3 w) (rd w) (rs1 w) (rs2 w) → T (reg_ok d && (reg_ok s && reg_ok t))
+r_means : (w f7 f3 op : ℕ) (d s t : Reg) (f : ℕ → ℕ → Reg → Reg → Reg → Option Inst)
+    → find None (opcodes w) (low 7 op) (λ m. m) ≡ f (funct7 w) (funct3 w) (rd w) (rs1 w) (rs2 w) → T (reg_ok d && (reg_ok s && reg_ok t))
     → Has w (format_r f7 t.number s.number f3 d.number op) → decoded w ≡ f (low 7 f7) (low 3 f3) d s t
 r_means w f7 f3 op d s t f fits ok (h7, (ht, (hs, (h3, (hd, ho))))) =
     let p =
@@ -130,26 +129,26 @@ r_means w f7 f3 op d s t f fits ok (h7, (ht, (hs, (h3, (hd, ho))))) =
     row w (low 7 op) ho ∙ fits ∙ (λ i. f (h7 i) (h3 i) (p i).0 (p i).1.0 (p i).1.1)
 
 -- the immediate m, which is imm in range
-i_means : (w imm f3 op m : ℕ) (d s : Reg) (c : Bool) (f : ℕ → Reg → Reg → ℕ → Decoded)
-    → find Illegal (opcodes w) (low 7 op) (λ m. m) ≡ f (funct3 w) (rd w) (rs1 w) m → (bits w 31 20 ≡ low 12 imm → T c → m ≡ imm)
+i_means : (w imm f3 op m : ℕ) (d s : Reg) (c : Bool) (f : ℕ → Reg → Reg → ℕ → Option Inst)
+    → find None (opcodes w) (low 7 op) (λ m. m) ≡ f (funct3 w) (rd w) (rs1 w) m → (bits w 31 20 ≡ low 12 imm → T c → m ≡ imm)
     → T (reg_ok d && (reg_ok s && c)) → Has w (format_i imm s.number f3 d.number op) → decoded w ≡ f (low 3 f3) d s imm
 i_means w imm f3 op m d s c f fits is ok (hi, (hs, (h3, (hd, ho)))) =
     let p = with_reg (reg_ok s && c) (bits w 11 7) d hd (with_reg c (bits w 19 15) s hs (is hi)) ok in
     row w (low 7 op) ho ∙ fits ∙ (λ i. f (h3 i) (p i).0 (p i).1.0 (p i).1.1)
 
-u_means : (w field op : ℕ) (d : Reg) (f : Reg → ℕ → Decoded) → find Illegal (opcodes w) (low 7 op) (λ m. m) ≡ f (rd w) (field_u w)
+u_means : (w field op : ℕ) (d : Reg) (f : Reg → ℕ → Option Inst) → find None (opcodes w) (low 7 op) (λ m. m) ≡ f (rd w) (field_u w)
     → T (reg_ok d && ltb field (2 ^ 20)) → Has w (format_u field d.number op) → decoded w ≡ f d field
 u_means w field op d f fits ok (hf, (hd, ho)) =
     let p = with_reg (ltb field (2 ^ 20)) (bits w 11 7) d hd (λ k. field_is (field_u w) 20 field k hf) ok in
     row w (low 7 op) ho ∙ fits ∙ (λ i. f (p i).0 (p i).1)
 
-pub reads : (w : ℕ) (i : Inst) → w < 2 ^ 32 → T (in_range i) → Has w (digits_of i) → decoded w ≡ Legal i
+pub reads : (w : ℕ) (i : Inst) → w < 2 ^ 32 → T (in_range i) → Has w (digits_of i) → decoded w ≡ Some i
 unfolding in_range decoded
-reads w (Lui d field) l ok h = u_means w field 0b0110111 d (λ d n. Legal (Lui d n)) refl ok h
-reads w (Auipc d field) l ok h = u_means w field 0b0010111 d (λ d n. Legal (Auipc d n)) refl ok h
+reads w (Lui d field) l ok h = u_means w field 0b0110111 d (λ d n. Some (Lui d n)) refl ok h
+reads w (Auipc d field) l ok h = u_means w field 0b0010111 d (λ d n. Some (Auipc d n)) refl ok h
 reads w (Jal d imm) l ok (h20, (h1, (h11, (h12, (hd, ho))))) =
     let p = with_reg (signed_ok 21 imm && even_ok imm) (bits w 11 7) d hd (j_imm w imm h20 h1 h11 h12) ok in
-    row w 0b1101111 ho ∙ (λ i. Legal (Jal (p i).0 (p i).1))
+    row w 0b1101111 ho ∙ (λ i. Some (Jal (p i).0 (p i).1))
 reads w (Jalr d s imm) l ok h = i_means w imm 0b000 0b1100111 (imm_i w) d s (signed_ok 12 imm) decode_jalr refl (i_imm w imm) ok h
 reads w (Branch o s t imm) l ok (h12, (h5, (ht, (hs, (h3, (h1, (h11, ho))))))) =
     let c = signed_ok 13 imm && even_ok imm in

@@ -7,12 +7,11 @@ use Rattle.word.proofs.Bools.{holds, is_true}
 use Rattle.isa.specs.Decoding.{decoded}
 use Rattle.isa.specs.Encoding.{in_range, word_of, encoded}
 use Rattle.isa.specs.declared.Inst.{Inst}
-use Rattle.isa.specs.declared.Decoded.TheVariants.{Legal}
-use Rattle.isa.specs.declared.Encoded.TheVariants.{Bits, OutOfRange}
 use Rattle.roundtrip.proofs.Digits.{value, Has, value_lt, value_has, whole}
 use Rattle.roundtrip.proofs.Formats.{digits_of, word-is}
 use Rattle.roundtrip.proofs.Reading.{reads}
 use Rattle.roundtrip.proofs.Meaning.{Good, means}
+use Rattle.std.specs.Prelude.{None, Some}
 
 -- ---- the word of an instruction, in range or not
 
@@ -25,13 +24,13 @@ word_lt i = rw (word-is i).0 (subst (λ (k : ℕ). value (digits_of i) < 2 ^ k) 
 
 -- ---- decoding an instruction's word gives the instruction
 
-pub decode_encode : (i : Inst) → in_range i ≡ true → decoded (word_of i) ≡ Legal i
+pub decode_encode : (i : Inst) → in_range i ≡ true → decoded (word_of i) ≡ Some i
 decode_encode i e = reads (word_of i) i (word_lt i) (holds (in_range i) e) (word_has i)
 
-pub decode_encoded : (i : Inst) (w : ℕ) → encoded i ≡ Bits w → decoded w ≡ Legal i
+pub decode_encoded : (i : Inst) (w : ℕ) → encoded i ≡ Some w → decoded w ≡ Some i
 decode_encoded i w = go (in_range i) refl
   where
-    go : (b : Bool) → in_range i ≡ b → cond b (Bits (word_of i)) OutOfRange ≡ Bits w → decoded w ≡ Legal i
+    go : (b : Bool) → in_range i ≡ b → cond b (Some (word_of i)) None ≡ Some w → decoded w ≡ Some i
     go true q e =
         let same : word_of i ≡ w = cc in
         ap decoded (sym same) ∙ decode_encode i q
@@ -39,14 +38,14 @@ decode_encoded i w = go (in_range i) refl
 
 -- ---- encoding what a word means gives the word
 
-good : (w : ℕ) (i : Inst) → decoded w ≡ Legal i → T (in_range i) × Has w (digits_of i)
+good : (w : ℕ) (i : Inst) → decoded w ≡ Some i → T (in_range i) × Has w (digits_of i)
 good w i e = subst (Good w) e (means w)
 
 -- what a word means is in range
-pub decoded_in_range : (w : ℕ) (i : Inst) → decoded w ≡ Legal i → in_range i ≡ true
+pub decoded_in_range : (w : ℕ) (i : Inst) → decoded w ≡ Some i → in_range i ≡ true
 decoded_in_range w i e = is_true (in_range i) (good w i e).0
 
-pub encode_decode : (w : ℕ) (i : Inst) → w < 2 ^ 32 → decoded w ≡ Legal i → encoded i ≡ Bits w
+pub encode_decode : (w : ℕ) (i : Inst) → w < 2 ^ 32 → decoded w ≡ Some i → encoded i ≡ Some w
 encode_decode w i l e =
     let l₃₂ = subst (λ (k : ℕ). w < 2 ^ k) (sym (word-is i).1) l in
-    ap (λ (b : Bool). cond b (Bits (word_of i)) OutOfRange) (decoded_in_range w i e) ∙ ap Bits ((word-is i).0 ∙ whole w (digits_of i) l₃₂ (good w i e).1)
+    ap (λ (b : Bool). cond b (Some (word_of i)) None) (decoded_in_range w i e) ∙ ap Some ((word-is i).0 ∙ whole w (digits_of i) l₃₂ (good w i e).1)

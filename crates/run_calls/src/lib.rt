@@ -5,24 +5,14 @@ ghost use Rattle.std.specs.Prelude.{◌≡◌};
 ghost use Rattle.answers.specs.Outcomes.{outcome};
 ghost use Rattle.run_calls.specs.Runs.{answered};
 
-use resume::Resumed;
+use answers::{Refusal, reply};
 
 // The number retired in its place; or a refusal's number, and the word that 3 tells in its own.
-pub fn answer(done: Resumed, retired: &mut u64, word: &mut usize) -> u32
+pub fn answer(done: Result<u64, Refusal>, retired: &mut u64, word: &mut usize) -> u32
     ensures { outcome result (retired.new, word.new) ≡ answered done retired.old word.old }
 {
-    match done {
-        Resumed::Retired(n) => {
-            *retired = n;
-            0
-        }
-        Resumed::Refused(why) => {
-            let number = why.number() as u32;
-            if number == 3 {
-                *word = why.word() as usize;
-                return number;
-            }
-            number
-        }
+    if let Some(k) = done.err().and_then(|why| why.word()) {
+        *word = usize::from(k);
     }
+    reply(done, retired)
 }

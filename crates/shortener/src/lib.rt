@@ -2,15 +2,15 @@
 // together, it is expanded again, and what it means is compared with the instruction.
 #![tactic(auto)]
 
-ghost use Rattle.std.specs.Prelude.{◌≡◌, if◌then◌else◌};
+ghost use Rattle.std.specs.Prelude.{◌≡◌, ◌==◌, if◌then◌else◌, Ok, Err};
 ghost use Rattle.isa.specs.Operations.{parts_of};
 ghost use Rattle.isa.specs.Shortening.{means, stands, shortened};
-ghost use Rattle.isa.specs.declared.Shortened.TheVariants.{Half, NoShortForm};
+ghost use Rattle.isa.specs.declared.Unshortened.TheVariants.{NoShortForm};
 ghost use Rattle.shortest.specs.Formats.{form_cr, form_ci, form16sp, form_lwsp, form_css, form_ciw, form_cl, form_ca, form_cb, form_cbi, form_cj};
-ghost use Rattle.shortest.specs.Trial.{try_addi, try_for, tried};
+ghost use Rattle.shortest.specs.Trial.{try_addi, tried};
 
-use isa::{Decoded, Inst, Parts, Shortened};
-use parts::{parts_of, same_parts};
+use isa::{ArithOp, Cond, ImmOp, Inst, LoadOp, Parts, ShiftOp, StoreOp, Unshortened};
+use parts::parts_of;
 
 fn form_cr(funct4: u32, rd: u32, rs2: u32, low: u32) -> u32
     ensures { result ≡ form_cr funct4 rd rs2 low }
@@ -123,101 +123,108 @@ fn form_cj(funct3: u32, imm: u32, low: u32) -> u32
         | low & 3
 }
 
-fn pick(test: bool, yes: u32, no: u32) -> u32
-    ensures { result ≡ (if test then yes else no) }
-{
-    if test { yes } else { no }
-}
-
 // addi: C.ADDI where rd is rs1 and the immediate has six bits, since it is the smaller one where
 // both it and C.ADDI16SP stand for the instruction; C.LI from x0; else C.ADDI4SPN.
 fn try_addi(rd: u32, rs1: u32, imm: u32) -> u32
     ensures { result ≡ try_addi rd rs1 imm }
 {
-    let six_bits = std::num::wrapping_add_u32(imm, 32) < 64;
-    let same = pick(
-        six_bits,
-        form_ci(0b000, imm, rd, 0b01),
-        form_16sp(0b011, imm, 2, 0b01),
-    );
-    let other = pick(
-        rs1 == 0,
-        form_ci(0b010, imm, rd, 0b01),
-        form_ciw(0b000, imm, rd, 0b00),
-    );
-    pick(rd == rs1, same, other)
+    if rd == rs1 {
+        if imm.wrapping_add(32) < 64 {
+            form_ci(0b000, imm, rd, 0b01)
+        } else {
+            form_16sp(0b011, imm, 2, 0b01)
+        }
+    } else if rs1 == 0 {
+        form_ci(0b010, imm, rd, 0b01)
+    } else {
+        form_ciw(0b000, imm, rd, 0b00)
+    }
 }
 
-// The halfword to try, by the operation's number. No short form has the other operations, and 0 is
-// illegal.
-fn try_for(operation: u8, rd: u32, rs1: u32, rs2: u32, imm: u32) -> u32
-    ensures { result ≡ try_for operation rd rs1 rs2 imm }
+// lw: C.LWSP from the stack pointer, x2, else C.LW.
+fn try_lw(rd: u32, rs1: u32, imm: u32) -> u32
+    ensures { result ≡ (if rs1 == 2 then form_lwsp 0b010 imm rd 0b10 else form_cl 0b010 imm rs1 rd 0b00) }
 {
-    match operation {
-        0 => form_ci(0b011, imm, rd, 0b01),
-        2 => form_cj(pick(rd == 1, 0b001, 0b101), imm, 0b01),
-        3 => form_cr(pick(rd == 0, 0b1000, 0b1001), rs1, 0, 0b10),
-        4 => form_cb(0b110, imm, rs1, 0b01),
-        5 => form_cb(0b111, imm, rs1, 0b01),
-        12 => pick(
-            rs1 == 2,
-            form_lwsp(0b010, imm, rd, 0b10),
-            form_cl(0b010, imm, rs1, rd, 0b00),
-        ),
-        17 => pick(
-            rs1 == 2,
-            form_css(0b110, imm, rs2, 0b10),
-            form_cl(0b110, imm, rs1, rs2, 0b00),
-        ),
-        18 => try_addi(rd, rs1, imm),
-        23 => form_cbi(0b100, imm, 0b10, rd, 0b01),
-        24 => form_ci(0b000, imm, rd, 0b10),
-        25 => form_cbi(0b100, imm, 0b00, rd, 0b01),
-        26 => form_cbi(0b100, imm, 0b01, rd, 0b01),
-        27 => form_cr(pick(rs1 == 0, 0b1000, 0b1001), rd, rs2, 0b10),
-        28 => form_ca(0b100011, rd, 0b00, rs2, 0b01),
-        32 => form_ca(0b100011, rd, 0b01, rs2, 0b01),
-        35 => form_ca(0b100011, rd, 0b10, rs2, 0b01),
-        36 => form_ca(0b100011, rd, 0b11, rs2, 0b01),
-        39 => form_cr(0b1001, 0, 0, 0b10),
+    if rs1 == 2 {
+        form_lwsp(0b010, imm, rd, 0b10)
+    } else {
+        form_cl(0b010, imm, rs1, rd, 0b00)
+    }
+}
+
+// sw: C.SWSP from the stack pointer, else C.SW.
+fn try_sw(rs1: u32, rs2: u32, imm: u32) -> u32
+    ensures { result ≡ (if rs1 == 2 then form_css 0b110 imm rs2 0b10 else form_cl 0b110 imm rs1 rs2 0b00) }
+{
+    if rs1 == 2 {
+        form_css(0b110, imm, rs2, 0b10)
+    } else {
+        form_cl(0b110, imm, rs1, rs2, 0b00)
+    }
+}
+
+// The halfword to try. Of an operation that has no short form it is 0, which is illegal.
+#[tactic(auto, unfolding(shortest::specs::Trial::try_for))]
+fn try_for(i: Inst) -> u32
+    ensures { result ≡ tried (parts_of i) }
+{
+    let Parts {
+        rd,
+        rs1,
+        rs2,
+        imm,
+        ..
+    } = parts_of(i);
+    match i {
+        Inst::Lui(..) => form_ci(0b011, imm, rd, 0b01),
+        Inst::Jal(..) => form_cj(if rd == 1 { 0b001 } else { 0b101 }, imm, 0b01),
+        Inst::Jalr(..) => form_cr(if rd == 0 { 0b1000 } else { 0b1001 }, rs1, 0, 0b10),
+        Inst::Branch(Cond::Beq, ..) => form_cb(0b110, imm, rs1, 0b01),
+        Inst::Branch(Cond::Bne, ..) => form_cb(0b111, imm, rs1, 0b01),
+        Inst::Load(LoadOp::Lw, ..) => try_lw(rd, rs1, imm),
+        Inst::Store(StoreOp::Sw, ..) => try_sw(rs1, rs2, imm),
+        Inst::Imm(ImmOp::Addi, ..) => try_addi(rd, rs1, imm),
+        Inst::Imm(ImmOp::Andi, ..) => form_cbi(0b100, imm, 0b10, rd, 0b01),
+        Inst::Shift(ShiftOp::Slli, ..) => form_ci(0b000, imm, rd, 0b10),
+        Inst::Shift(ShiftOp::Srli, ..) => form_cbi(0b100, imm, 0b00, rd, 0b01),
+        Inst::Shift(ShiftOp::Srai, ..) => form_cbi(0b100, imm, 0b01, rd, 0b01),
+        Inst::Arith(ArithOp::Add, ..) => {
+            form_cr(if rs1 == 0 { 0b1000 } else { 0b1001 }, rd, rs2, 0b10)
+        }
+        Inst::Arith(ArithOp::Sub, ..) => form_ca(0b100011, rd, 0b00, rs2, 0b01),
+        Inst::Arith(ArithOp::Xor, ..) => form_ca(0b100011, rd, 0b01, rs2, 0b01),
+        Inst::Arith(ArithOp::Or, ..) => form_ca(0b100011, rd, 0b10, rs2, 0b01),
+        Inst::Arith(ArithOp::And, ..) => form_ca(0b100011, rd, 0b11, rs2, 0b01),
+        Inst::Ebreak => form_cr(0b1001, 0, 0, 0b10),
         _ => 0,
     }
 }
 
-fn means_it(meaning: Decoded, i: Inst) -> bool
+fn means_it(meaning: Option<Inst>, i: Inst) -> bool
     ensures { result ≡ means meaning i }
 {
-    let Decoded::Legal(j) = meaning else {
-        return false;
-    };
-    same_parts(parts_of(j), parts_of(i))
-}
-
-fn trial(p: Parts) -> u32
-    ensures { result ≡ tried p }
-{
-    try_for(p.operation, p.rd, p.rs1, p.rs2, p.imm)
+    meaning.is_some_and(|j| parts_of(j) == parts_of(i))
 }
 
 // The smallest halfword that stands for an instruction in range: the one that is tried, or none.
-fn by_trial(i: Inst) -> Shortened
-    ensures { result ≡ (if stands i (tried (parts_of i)) then Half (tried (parts_of i)) else NoShortForm) }
+fn by_trial(i: Inst) -> Result<u16, Unshortened>
+    ensures { result ≡ (if stands i (tried (parts_of i)) then Ok (tried (parts_of i)) else Err NoShortForm) }
 {
-    let half = trial(parts_of(i)) as u16;
+    let half = try_for(i) as u16;
     if means_it(expander::expand(half), i) {
-        Shortened::Half(half)
+        Ok(half)
     } else {
-        Shortened::NoShortForm
+        Err(Unshortened::NoShortForm)
     }
 }
 
 // The smallest halfword that stands for the instruction.
-pub fn shorten(i: Inst) -> Shortened
+pub fn shorten(i: Inst) -> Result<u16, Unshortened>
     ensures { result ≡ shortened i }
 {
     if ranges::in_range(i) {
         by_trial(i)
     } else {
-        Shortened::OutOfRange
+        Err(Unshortened::OutOfRange)
     }
 }

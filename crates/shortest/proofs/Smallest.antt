@@ -4,15 +4,16 @@ use mathlib.Core.Bool.{Bool, true, false}
 use Prim.Native.Nat.{ℕ, zero, suc, ◌<◌}
 use native.Mathlib.Omega.{arith}
 use native.Mathlib.Decide.{dec_lt}
-use Rattle.isa.specs.declared.Shortened.TheVariants.{Half, NoShortForm}
 use Rattle.isa.specs.Shortening.{smallest}
+use Rattle.isa.specs.declared.Unshortened.TheVariants as U
+use Rattle.std.specs.Prelude.{Err, Ok}
 
-pub no_smallest : (p : ℕ → Bool) (n : ℕ) → ((k : ℕ) → k < n → p k ≡ false) → smallest p n ≡ NoShortForm
+pub no_smallest : (p : ℕ → Bool) (n : ℕ) → ((k : ℕ) → k < n → p k ≡ false) → smallest p n ≡ Err U.NoShortForm
 unfolding smallest
 no_smallest p zero f = refl
 no_smallest p (suc n) f = rw (no_smallest p n (λ k l. f k (omega arith)), f n (omega arith))
 
-pub the_smallest : (p : ℕ → Bool) (n h : ℕ) → h < n → p h ≡ true → ((k : ℕ) → k < h → p k ≡ false) → smallest p n ≡ Half h
+pub the_smallest : (p : ℕ → Bool) (n h : ℕ) → h < n → p h ≡ true → ((k : ℕ) → k < h → p k ≡ false) → smallest p n ≡ Ok h
 unfolding smallest
 the_smallest p zero h l t f = absurd (omega arith)
 the_smallest p (suc n) h l t f =

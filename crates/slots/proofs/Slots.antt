@@ -3,7 +3,7 @@ use Prim.Native.Nat.{ℕ, ◌+◌, ◌-◌, ◌*◌, ◌/◌, ◌%◌, ◌^◌, 
 use native.Mathlib.Omega.{arith}
 use mathlib.Core.Path.{◌≡◌, refl, sym, ap, ◌∙◌}
 use mathlib.Core.Bool.{Bool, true, false, not, and-eq-true_iff}
-use mathlib.Core.Logic.{◌↔◌, ◌⊎◌}
+use mathlib.Core.Logic.{◌↔◌, ◌⊎◌, inl, inr, ⊎_elim}
 use mathlib.Core.List.{List, ◌++◌, append_assoc}
 use lib.ListN.{length, take, drop, length-append, length-take, length-drop, take-append-drop}
 use lib.Seq.{length-take-le, take-add, take_at, drop_at, take_all}
@@ -15,8 +15,6 @@ use Rattle.word.proofs.Bounds.{below_take, below_drop}
 use Rattle.answers.specs.Outcomes.{Outcome, outcome, decided}
 use Rattle.answers.proofs.Checks.{both_passed}
 use Rattle.answers.specs.declared.Refusal.TheVariants as R
-use Rattle.answers.specs.declared.Check.{Check}
-use Rattle.answers.specs.declared.Check.TheVariants.{Passed, Refused}
 use Rattle.octets.specs.Bytes.{load}
 use Rattle.state.specs.declared.State.{State}
 use Rattle.state.specs.Sizes.{Fits}
@@ -24,8 +22,10 @@ use Rattle.state.specs.States.{well_formed}
 use Rattle.state.proofs.Laws.{form_passes, form_passed}
 use Rattle.records.specs.Records.{record_of, state_of}
 use Rattle.records.proofs.Records.{length_record, record_sound, read_back, write_back}
-use Rattle.slots.specs.declared.ReadBack.{ReadBack}
-use Rattle.slots.specs.Slots.{slot_there, slot_at, slot_set, write_entry, read_checked, read_to, no_read, read_entry}
+use Rattle.slots.specs.Slots.{slot_there, slot_at, slot_set, write_entry, read_checked, read_entry}
+use Rattle.answers.specs.Checks.{Check, passed}
+use Rattle.answers.specs.declared.Refusal.{Refusal}
+use Rattle.std.specs.Prelude.{Err, Ok, Result}
 
 -- the part from a slot's start to its end
 pub one_record : (start : ℕ) → start + 144 - start ≡ 144
@@ -97,7 +97,7 @@ pub record ReadsWell (k : ℕ) (slots : List ℕ) : Type 0 where
   pub formed : well_formed (state_of (slot_at k slots)) ≡ true
   pub rest : load 3 137 (slot_at k slots) ≡ 0
 
-pub reads_well : (k : ℕ) (slots : List ℕ) → read_checked k slots ≡ Passed → ReadsWell k slots
+pub reads_well : (k : ℕ) (slots : List ℕ) → read_checked k slots ≡ passed → ReadsWell k slots
 reads_well k slots e =
     let part : List ℕ = slot_at k slots in
     let t = both_passed (slot_there k slots) R.Slot _ e in
@@ -124,29 +124,38 @@ holds_set k s slots l t =
     let i = there-fits k slots t in
     record { there = rw (slot_set_length k (record_of s) slots r i) t; record_held = slot_set_at k (record_of s) slots r i }
 
-pub read_held : (k : ℕ) (s : State) (slots : List ℕ) → SlotHolds k s slots → Fits s → well_formed s ≡ true → read_entry k slots ≡ outcome (read_to s) tt
+pub read_held : (k : ℕ) (s : State) (slots : List ℕ) → SlotHolds k s slots → Fits s → well_formed s ≡ true → read_entry k slots ≡ outcome (Ok s) tt
 unfolding decided
 read_held k s slots h f w =
     rw (h.there, h.record_held, record_sound s f w, read_back s f)
 
-pub write_passes : (k : ℕ) (s : State) (slots : List ℕ) → slot_there k slots ≡ true → well_formed s ≡ true → write_entry k s slots ≡ outcome Passed (slot_set k (record_of s) slots)
+pub write_passes : (k : ℕ) (s : State) (slots : List ℕ) → slot_there k slots ≡ true → well_formed s ≡ true → write_entry k s slots ≡ outcome passed (slot_set k (record_of s) slots)
 unfolding decided
 write_passes k s slots t h = rw (t, form_passes true s refl h)
 
 -- ---- what reading slot k answered
 
-decided_check : (d : Check) (o : Outcome ReadBack (Unit {0})) → o.answer.check ≡ Passed → (decided d o no_read tt).answer.check ≡ d
-unfolding decided
-decided_check Passed o e = e
-decided_check (Refused r) o e = refl
+module _ (k : ℕ) (slots : List ℕ) {b : Result State Refusal} (e : outcome b tt ≡ read_entry k slots) where
+  -- every test passed, and the state is what the record says; or the refusal
+  abbrev Found : Check → Type 0
+  Found c = ((c ≡ passed) × (b ≡ Ok (state_of (slot_at k slots)))) ⊎ ((r : Refusal) × (c ≡ Err r) × (b ≡ Err r))
 
-module _ (k : ℕ) (slots : List ℕ) {b : ReadBack} (e : outcome b tt ≡ read_entry k slots) where
-  pub check_was : {d : Check} → b.check ≡ d → read_checked k slots ≡ d
-  check_was h = sym (decided_check (read_checked k slots) _ refl) ∙ sym (ap (λ o. o.answer.check) e) ∙ h
-
-  pub state_was : b.check ≡ Passed → b.state ≡ state_of (slot_at k slots)
+  found_by : (c : Check) → b ≡ (decided {B = Unit {0}} c (outcome (Ok (state_of (slot_at k slots))) tt) Err tt).answer → Found c
   unfolding decided
-  state_was h = ap (λ o. o.answer.state) e ∙ rw (check_was h)
+  found_by (Ok u) h = inl (refl, h)
+  found_by (Err r) h = inr (r, refl, h)
 
-  pub slot_was_there : b.check ≡ Passed → 144 * k + 144 ≤ length slots
-  slot_was_there h = there-fits k slots (both_passed (slot_there k slots) R.Slot _ (check_was h)).0
+  found : Found (read_checked k slots)
+  found = found_by (read_checked k slots) (ap (λ o. o.answer) e)
+
+  pub refused_was : {r : Refusal} → b ≡ Err r → read_checked k slots ≡ Err r
+  refused_was h = ⊎_elim (λ p. let z = sym p.1 ∙ h in cc) (λ q. q.1 ∙ (let z = sym q.2 ∙ h in cc)) found
+
+  pub passed_was : {s : State} → b ≡ Ok s → (read_checked k slots ≡ passed) × (s ≡ state_of (slot_at k slots))
+  passed_was h = ⊎_elim (λ p. (p.0, (let z = sym h ∙ p.1 in cc))) (λ q. let z = sym q.2 ∙ h in cc) found
+
+  pub state_was : {s : State} → b ≡ Ok s → s ≡ state_of (slot_at k slots)
+  state_was h = (passed_was h).1
+
+  pub slot_was_there : {s : State} → b ≡ Ok s → 144 * k + 144 ≤ length slots
+  slot_was_there h = there-fits k slots (both_passed (slot_there k slots) R.Slot _ (passed_was h).0).0

@@ -12,7 +12,6 @@ use Rattle.answers.specs.Stops.{stop_number, last_stop, located, HasNoAddress}
 use Rattle.answers.proofs.Numbers.{stop-numbered}
 use Rattle.answers.proofs.Checks.{both_passed}
 use Rattle.answers.specs.declared.Cause.{Cause}
-use Rattle.answers.specs.declared.Check.TheVariants.{Passed}
 use Rattle.answers.specs.declared.Refusal.TheVariants as R
 use Rattle.word.specs.Bounds.{AllBelow}
 use Rattle.word.proofs.Bools.{either, second, below, and_fails, or_fails}
@@ -21,6 +20,7 @@ use Rattle.isa.specs.declared.Reg.{Reg}
 use Rattle.state.specs.declared.State.{State}
 use Rattle.state.specs.Sizes.{Fits}
 use Rattle.state.specs.States.{register_of, register_set, written, advanced, halted, address_allowed, well_formed, form_checked}
+use Rattle.answers.specs.Checks.{passed}
 
 -- ---- registers
 
@@ -89,17 +89,17 @@ pub malformed : (s : State) → (well_formed s ≡ false) ↔ ((s.pc % 2 ≡ 1) 
 malformed s = and_fails (eqb (s.pc % 2) 0) _ (odd_pc s) (and_fails (leb s.stop last_stop) (address_allowed s) (no_stop s) (stray_address s))
 
 -- refusals 5, 14 and 15: the check passes exactly if the state is well-formed, and those zeros are there
-pub form_passes : (zeros : Bool) (s : State) → zeros ≡ true → well_formed s ≡ true → form_checked zeros s ≡ Passed
+pub form_passes : (zeros : Bool) (s : State) → zeros ≡ true → well_formed s ≡ true → form_checked zeros s ≡ passed
 form_passes zeros s z w =
     let p = (and-eq-true_iff (eqb (s.pc % 2) 0) _).0 w in
     let q = (and-eq-true_iff (leb s.stop last_stop) (address_allowed s)).0 p.1 in
     rw (p.0, q.0, z, q.1)
 
-pub form_passed : (zeros : Bool) (s : State) → form_checked zeros s ≡ Passed → (zeros ≡ true) × (well_formed s ≡ true)
+pub form_passed : (zeros : Bool) (s : State) → form_checked zeros s ≡ passed → (zeros ≡ true) × (well_formed s ≡ true)
 form_passed zeros s e =
     let p = both_passed (eqb (s.pc % 2) 0) R.OddPc _ e in
     let q = both_passed (leb s.stop last_stop) R.StopNumber _ p.1 in
-    let r = (and-eq-true_iff zeros (address_allowed s)).0 (both_passed (zeros && address_allowed s) R.RecordEnd Passed q.1).0 in
+    let r = (and-eq-true_iff zeros (address_allowed s)).0 (both_passed (zeros && address_allowed s) R.RecordEnd passed q.1).0 in
     (r.0, rw (p.0, q.0) r.1)
 
 pub formed_even : (s : State) → well_formed s ≡ true → s.pc % 2 ≡ 0

@@ -1,10 +1,9 @@
 -- A state: pc, x1 to x31, the retired count, a stop number and the address that belongs to the stop.
-use Rattle.std.specs.Prelude.{ℕ, ◌+◌, ◌-◌, ◌%◌, Bool, true, cond, ◌&&◌, ◌||◌, List, get_or, set, replicate, eqb, leb}
-use Rattle.answers.specs.Checks.{unless}
+use Rattle.std.specs.Prelude.{ℕ, ◌+◌, ◌-◌, ◌%◌, Bool, true, cond, ◌&&◌, ◌||◌, List, get_or, set, replicate, eqb, leb, Result, Ok, Err}
+use Rattle.answers.specs.Checks.{unless, Check, passed}
 use Rattle.answers.specs.Stops.{stop_number, last_stop, located}
 use Rattle.answers.specs.declared.Cause.{Cause}
-use Rattle.answers.specs.declared.Check.{Check}
-use Rattle.answers.specs.declared.Check.TheVariants.{Passed}
+use Rattle.answers.specs.declared.Refusal.{Refusal}
 use Rattle.answers.specs.declared.Refusal.TheVariants as R
 use Rattle.isa.specs.declared.Reg.{Reg}
 use Rattle.state.specs.declared.State.{State}
@@ -39,6 +38,11 @@ fresh = state 0 (replicate 31 0) 0 0 0
 abbrev pub no_state : State
 no_state = state 0 (replicate 31 0) 0 255 0
 
+-- the state that is answered, or that one
+abbrev pub state_in : Result State Refusal → State
+state_in (Ok s) = s
+state_in (Err r) = no_state
+
 -- its stop number allows its address: the stop has one, or there is none
 abbrev pub address_allowed : State → Bool
 address_allowed s = located s.stop || eqb s.address 0
@@ -49,7 +53,7 @@ well_formed s = eqb (s.pc % 2) 0 && (leb s.stop last_stop && address_allowed s)
 
 -- refusals 5, 14 and 15; `zeros` says whether bytes 137 to 139 are zero of the record that the state is read from
 abbrev pub form_checked : Bool → State → Check
-form_checked zeros s = unless (eqb (s.pc % 2) 0) R.OddPc (unless (leb s.stop last_stop) R.StopNumber (unless (zeros && address_allowed s) R.RecordEnd Passed))
+form_checked zeros s = unless (eqb (s.pc % 2) 0) R.OddPc (unless (leb s.stop last_stop) R.StopNumber (unless (zeros && address_allowed s) R.RecordEnd passed))
 
 -- of a state that is read from none
 abbrev pub state_checked : State → Check

@@ -4,7 +4,7 @@
 ghost use Rattle.std.specs.Prelude.{◌≡◌, cond, ◌+◌, ◌<◌, ◌^◌, get_or};
 ghost use Rattle.state.specs.States.{register_of, register_set, written, advanced, halted, fresh, no_state, form_checked};
 
-use answers::{Cause, Check, Refusal};
+use answers::{Cause, Refusal};
 use isa::Reg;
 
 #[derive(Clone, Copy)]
@@ -14,50 +14,30 @@ pub struct State {
     pub x: [u32; 31],
     // the steps retired
     pub count: u64,
-    // a stop number; a state may be malformed, so any
+    // a stop number and no `Stop`; a state may be malformed, so any
     pub stop: u8,
     // where it stopped; 0 where no address belongs to the stop
     pub address: u32,
-}
-
-// An element; past the last there is 0.
-fn at(x: &[u32], i: usize) -> u32
-    ensures { result ≡ get_or x.now i 0 }
-{
-    if i < x.len() {
-        return x[i];
-    }
-    0
 }
 
 // A register's value; x0 reads 0.
 pub fn read(x: &[u32; 31], r: Reg) -> u32
     ensures { result ≡ register_of x.now r }
 {
-    let n = r.number() as usize;
-    if n == 0 {
-        return 0;
+    match r.number() as usize {
+        0 => 0,
+        n => x.get(n - 1).copied().unwrap_or(0),
     }
-    at(x, n - 1)
-}
-
-// v where it is to be written, else what stood there.
-fn pick(here: bool, v: u32, old: u32) -> u32
-    ensures { result ≡ cond here v old }
-{
-    if here { v } else { old }
 }
 
 // A register has v; a write to x0 is dropped. Every element is stored, at an index that is known once
 // the loop is unrolled: a store at n - 1 would have the whole array copied out of the state and back.
-fn write(x: &mut [u32], r: Reg, v: u32)
+fn write(x: &mut [u32; 31], r: Reg, v: u32)
     ensures { x.new ≡ register_set r v x.old }
 {
     let n = r.number() as usize;
-    let mut k = 0;
-    while k < x.len() {
-        x[k] = pick(k + 1 == n, v, x[k]);
-        k += 1;
+    for (k, word) in x.iter_mut().enumerate() {
+        *word = if k + 1 == n { v } else { *word };
     }
 }
 
@@ -75,7 +55,8 @@ impl State {
         }
     }
 
-    // What a refusal has in the place of a state: malformed, so that it is refused wherever it is used.
+    // The state that definitions name where there is none: malformed, so that it is refused wherever it is
+    // used.
     pub fn none() -> State
         ensures { result ≡ no_state }
     {
@@ -94,13 +75,7 @@ impl State {
     {
         let mut x = self.x;
         write(&mut x, r, v);
-        State {
-            pc: self.pc,
-            x,
-            count: self.count,
-            stop: self.stop,
-            address: self.address,
-        }
+        State { x, ..self }
     }
 
     // A step is complete, and the next is at pc.
@@ -108,13 +83,10 @@ impl State {
         requires { self.count + 1 < 2 ^ 64 }
         ensures { result ≡ advanced pc self }
     {
-        let x = self.x;
         State {
             pc,
-            x,
             count: self.count + 1,
-            stop: self.stop,
-            address: self.address,
+            ..self
         }
     }
 
@@ -122,32 +94,28 @@ impl State {
     pub fn halt(self, why: Cause) -> State
         ensures { result ≡ halted why self }
     {
-        let x = self.x;
-        let stop = why.stop;
         State {
-            pc: self.pc,
-            x,
-            count: self.count,
-            stop: stop.number(),
+            stop: why.stop.number(),
             address: why.address,
+            ..self
         }
     }
 
     // Refusals 5, 14 and 15. Where the state is read from a record, `zeros` says whether the bytes
     // after its stop number are zero; else it is true.
-    pub fn check(self, zeros: bool) -> Check
+    pub fn check(self, zeros: bool) -> Result<(), Refusal>
         ensures { result ≡ form_checked zeros self }
     {
         if self.pc % 2 != 0 {
-            return Check::Refused(Refusal::OddPc);
+            return Err(Refusal::OddPc);
         }
         if self.stop > 11 {
-            return Check::Refused(Refusal::StopNumber);
+            return Err(Refusal::StopNumber);
         }
-        let located = ((3 <= self.stop) & (self.stop <= 9)) | (self.stop == 11);
-        if !(zeros & (located | (self.address == 0))) {
-            return Check::Refused(Refusal::RecordEnd);
+        let located = matches!(self.stop, 3..=9 | 11);
+        if !(zeros && (located || self.address == 0)) {
+            return Err(Refusal::RecordEnd);
         }
-        Check::Passed
+        Ok(())
     }
 }

@@ -1,4 +1,4 @@
-// Little-endian numbers written to a slice of bytes. Each width is two of its half.
+// Little-endian numbers written to a slice of bytes.
 #![tactic(auto)]
 
 ghost use Rattle.std.specs.Prelude.{◌≡◌, ◌+◌, ◌≤◌, length};
@@ -7,45 +7,23 @@ ghost use Rattle.octets.specs.Widths.{width_bytes};
 
 use octets::Width;
 
-pub fn store1(m: &mut [u8], a: usize, v: u8)
-    requires { a + 1 ≤ length m.old }
-    ensures { m.new ≡ store 1 a v m.old }
+// The low N bytes of v put at a place.
+pub fn store<const N: usize>(m: &mut [u8], at: usize, v: u64)
+    requires at_most_eight { N ≤ 8 }
+    requires in_bounds { at + N ≤ length m.old }
+    ensures { m.new ≡ store N at v m.old }
 {
-    m[a] = v;
+    m[at..at + N].copy_from_slice(&v.to_le_bytes()[..N]);
 }
 
-pub fn store2(m: &mut [u8], a: usize, v: u16)
-    requires { a + 2 ≤ length m.old }
-    ensures { m.new ≡ store 2 a v m.old }
-{
-    store1(m, a, (v % 256) as u8);
-    store1(m, a + 1, (v / 256) as u8);
-}
-
-pub fn store4(m: &mut [u8], a: usize, v: u32)
-    requires { a + 4 ≤ length m.old }
-    ensures { m.new ≡ store 4 a v m.old }
-{
-    store2(m, a, (v % 65536) as u16);
-    store2(m, a + 2, (v / 65536) as u16);
-}
-
-pub fn store8(m: &mut [u8], a: usize, v: u64)
-    requires { a + 8 ≤ length m.old }
-    ensures { m.new ≡ store 8 a v m.old }
-{
-    store4(m, a, (v % 4294967296) as u32);
-    store4(m, a + 4, (v / 4294967296) as u32);
-}
-
-// The low bytes of v put at a, as many as the width has.
-pub fn store_of(m: &mut [u8], a: usize, width: Width, v: u32)
-    requires { a + width_bytes width ≤ length m.old }
-    ensures { m.new ≡ store (width_bytes width) a v m.old }
+// The low bytes of v put at a place, as many as the width has.
+pub fn store_of(m: &mut [u8], at: usize, width: Width, v: u32)
+    requires { at + width_bytes width ≤ length m.old }
+    ensures { m.new ≡ store (width_bytes width) at v m.old }
 {
     match width {
-        Width::One => store1(m, a, (v % 256) as u8),
-        Width::Two => store2(m, a, (v % 65536) as u16),
-        Width::Four => store4(m, a, v),
+        Width::One => store::<1>(m, at, u64::from(v)),
+        Width::Two => store::<2>(m, at, u64::from(v)),
+        Width::Four => store::<4>(m, at, u64::from(v)),
     }
 }

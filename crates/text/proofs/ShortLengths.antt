@@ -25,25 +25,24 @@ use Rattle.isa.specs.declared.ShiftOp.{ShiftOp}
 use Rattle.isa.specs.declared.ShiftOp.TheVariants.{Slli, Srli, Srai}
 use Rattle.isa.specs.declared.ArithOp.{ArithOp}
 use Rattle.isa.specs.declared.ArithOp.TheVariants.{Add, Sub, Xor, Or, And}
-use Rattle.isa.specs.declared.Decoded.{Decoded}
-use Rattle.isa.specs.declared.Decoded.TheVariants.{Legal, Illegal}
 use Rattle.isa.specs.Registers.{x0, ra, sp}
 use Rattle.isa.specs.Operations.{cond_number, imm_number, shift_number, arith_number}
 use Rattle.isa.specs.Rvc.{reg11_7, reg6_2, short9_7, short4_2, imm6, field_lui, imm16sp, imm4spn, imm_lw, imm_lwsp, imm_swsp, imm_cj, imm_cb, nonzero, clear12, c_addi4spn, quadrant0, c_addi16sp, c_lui, c_upper, pairs, alus, illegal, c_alu, c_branch, quadrant1, c_lwsp, c_jr, c_mv, c_jalr, c_add, c_register, c_swsp, quadrant2, quadrants, expanded}
 use Rattle.text.specs.Names.{names, name_at}
 use Rattle.text.specs.Text.{space, comma, parens, register_text, operands_of, text_of, short_text_of}
 use Rattle.text.proofs.Lengths.{plus_fits, sext-fits, one_reg, two_regs, address, name_fits}
+use Rattle.std.specs.Prelude.{None, Option, Some}
 
 -- what is said of the meaning of a halfword
-abbrev pub Fits : Decoded → Type 0
-Fits (Legal i) = length (text_of i) ≤ 16
-Fits Illegal = Unit {0}
+abbrev pub Fits : Option Inst → Type 0
+Fits (Some i) = length (text_of i) ≤ 16
+Fits None = Unit {0}
 
-nonzero-fits : (n : ℕ) (i : Inst) → Fits (Legal i) → Fits (nonzero n i)
-nonzero-fits n i f = either Fits (eqb n 0) Illegal (Legal i) tt f
+nonzero-fits : (n : ℕ) (i : Inst) → Fits (Some i) → Fits (nonzero n i)
+nonzero-fits n i f = either Fits (eqb n 0) None (Some i) tt f
 
-clear_fits : (h : ℕ) (i : Inst) → Fits (Legal i) → Fits (clear12 h i)
-clear_fits h i f = either Fits (eqb (bits h 12 12) 0) (Legal i) Illegal f tt
+clear_fits : (h : ℕ) (i : Inst) → Fits (Some i) → Fits (clear12 h i)
+clear_fits h i f = either Fits (eqb (bits h 12 12) 0) (Some i) None f tt
 
 -- ---- the forms of operands
 
@@ -62,7 +61,7 @@ address_fits name t a b l m n =
 
 -- ---- the rows
 
-arith-fits : (o : ArithOp) (a b c : Reg) → a.number < 32 → b.number < 32 → c.number < 32 → Fits (Legal (Arith o a b c))
+arith-fits : (o : ArithOp) (a b c : Reg) → a.number < 32 → b.number < 32 → c.number < 32 → Fits (Some (Arith o a b c))
 unfolding operands_of text_of
 arith-fits o a b c l m n =
     two_fits 1 (name_at (arith_number o)) (register_text c) a b l (omega arith) (omega (arith, name_fits (Arith o a b c), decimal_bound 1 c.number (omega arith)))
@@ -87,13 +86,13 @@ module _ (h : ℕ) where
   -- quadrant 1
 
   -- C.ADDI, C.LI and C.ANDI
-  imm6-fits : (o : ImmOp) (a b : Reg) → length (name_at (imm_number o)) ≤ 4 → a.number < 32 → b.number < 32 → Fits (Legal (Imm o a b (imm6 h)))
+  imm6-fits : (o : ImmOp) (a b : Reg) → length (name_at (imm_number o)) ≤ 4 → a.number < 32 → b.number < 32 → Fits (Some (Imm o a b (imm6 h)))
   unfolding operands_of text_of
   imm6-fits o a b n l m =
       let imm : length (signed_decimal (imm6 h)) ≤ 3 = sext-fits 1 6 _ (omega arith) (omega arith) in
       two_fits 1 (name_at (imm_number o)) (signed_decimal (imm6 h)) a b l (omega arith) (omega arith)
 
-  jal_fits : (r : Reg) → r.number < 32 → Fits (Legal (Jal r (imm_cj h)))
+  jal_fits : (r : Reg) → r.number < 32 → Fits (Some (Jal r (imm_cj h)))
   unfolding names name_at operands_of text_of
   jal_fits r l =
       let imm : length (signed_decimal (imm_cj h)) ≤ 5 = sext-fits 3 12 _ (omega arith) (omega arith) in
@@ -117,15 +116,15 @@ module _ (h : ℕ) where
       clear_fits h (Shift o r r (bits h 6 2))
       (two_fits 1 (name_at (shift_number o)) (decimal (bits h 6 2)) r r l (omega arith) (omega (arith, name_fits (Shift o r r (bits h 6 2)), decimal_bound 1 (bits h 6 2) (omega arith))))
 
-  abbrev pair : ArithOp → Decoded
+  abbrev pair : ArithOp → Option Inst
   pair o = clear12 h (Arith o (short9_7 h) (short9_7 h) (short4_2 h))
 
   pair_fits : (o : ArithOp) → Fits (pair o)
   pair_fits o = clear_fits h (Arith o (short9_7 h) (short9_7 h) (short4_2 h)) (arith-fits o (short9_7 h) (short9_7 h) (short4_2 h) (omega arith) (omega arith) (omega arith))
 
-  pairs_fit : Fits (find Illegal pairs (bits h 6 5) pair)
+  pairs_fit : Fits (find None pairs (bits h 6 5) pair)
   pairs_fit =
-      found Fits Illegal tt pairs (bits h 6 5) pair ((λ e. pair_fits Sub) and (λ e. pair_fits Xor) and (λ e. pair_fits Or) and (λ e. pair_fits And) and tt)
+      found Fits None tt pairs (bits h 6 5) pair ((λ e. pair_fits Sub) and (λ e. pair_fits Xor) and (λ e. pair_fits Or) and (λ e. pair_fits And) and tt)
 
   alu_fits : Fits (c_alu h)
   unfolding names name_at
@@ -156,12 +155,12 @@ module _ (h : ℕ) where
   swsp_fits =
       address_fits (name_at 17) (signed_decimal (imm_swsp h)) (reg6_2 h) sp (omega arith) (omega arith) (omega (arith, plus_fits 2 (imm_swsp h) (omega arith) (omega arith)))
 
-  jalr_fits : (r : Reg) → r.number < 32 → Fits (Legal (Jalr r (reg11_7 h) 0))
+  jalr_fits : (r : Reg) → r.number < 32 → Fits (Some (Jalr r (reg11_7 h) 0))
   unfolding names name_at operands_of text_of
   jalr_fits r l = address_fits (name_at 3) (signed_decimal 0) r (reg11_7 h) l (omega arith) (omega (arith, plus_fits 0 0 (omega arith) (omega arith)))
 
   -- C.EBREAK or C.JALR
-  break_fits : (b : Bool) → Fits (Legal (cond b Ebreak (Jalr ra (reg11_7 h) 0)))
+  break_fits : (b : Bool) → Fits (Some (cond b Ebreak (Jalr ra (reg11_7 h) 0)))
   unfolding names name_at operands_of text_of
   break_fits true = lit≤ tt
   break_fits false = jalr_fits ra (omega arith)
@@ -179,10 +178,10 @@ module _ (h : ℕ) where
 
   -- all halfwords
 
-  abbrev Row : (ℕ → Decoded) → Type 0
+  abbrev Row : (ℕ → Option Inst) → Type 0
   Row m = Fits (m h)
 
-  abbrev Rows : List (ℕ × (ℕ → Decoded)) → Type 0
+  abbrev Rows : List (ℕ × (ℕ → Option Inst)) → Type 0
   Rows q = Each Row q (bits h 15 13) (λ m. m)
 
   rows-0 : Rows quadrant0
@@ -205,7 +204,7 @@ module _ (h : ℕ) where
   rows-2 : Rows quadrant2
   rows-2 = (λ e. shift_fits Slli (reg11_7 h) (omega arith)) and (λ e. lwsp_fits) and (λ e. register-fits) and (λ e. swsp_fits) and tt
 
-  quadrant : (q : List (ℕ × (ℕ → Decoded))) → Rows q → Row (find illegal q (bits h 15 13) (λ m. m))
+  quadrant : (q : List (ℕ × (ℕ → Option Inst))) → Rows q → Row (find illegal q (bits h 15 13) (λ m. m))
   quadrant q e = found Row illegal tt q (bits h 15 13) (λ m. m) e
 
   pub expanded-fits : Fits (expanded h)
@@ -214,8 +213,8 @@ module _ (h : ℕ) where
       found Row illegal tt quadrants (low 2 h) (λ q. find illegal q (bits h 15 13) (λ m. m))
       ((λ e. quadrant quadrant0 rows-0) and (λ e. quadrant quadrant1 rows_1) and (λ e. quadrant quadrant2 rows-2) and tt)
 
-pub short_longest : (h : ℕ) (i : Inst) → expanded h ≡ Legal i → length (short_text_of i) ≤ 18
+pub short_longest : (h : ℕ) (i : Inst) → expanded h ≡ Some i → length (short_text_of i) ≤ 18
 unfolding short_text_of
 short_longest h i e =
-    let f : Fits (Legal i) = subst Fits e (expanded-fits h) in
+    let f : Fits (Some i) = subst Fits e (expanded-fits h) in
     omega arith

@@ -1,5 +1,5 @@
 -- A line of each operation, which stands for all of its lines: the table that names are written from and that lines are read by.
-use Rattle.std.specs.Prelude.{cond, List, [], ◌∷◌, ◌++◌, ℕ, zero, suc, leb}
+use Rattle.std.specs.Prelude.{cond, List, [], ◌∷◌, ◌++◌, ℕ, leb}
 use Prim.Native.Char.{code}
 use Rattle.ascii.specs.Ascii.{bytes}
 use Rattle.isa.specs.declared.Inst.{Inst}
@@ -13,12 +13,6 @@ sample operation = built (parts operation 1 2 3 4)
 
 unfoldable pub sample_line : ℕ → List ℕ
 sample_line operation = text_of (sample operation) ++ bytes "\n"
-
--- so many bytes of a line, with 0 after its end
-unfoldable pub padded : ℕ → List ℕ → List ℕ
-padded zero l = []
-padded (suc n) [] = 0 ∷ padded n []
-padded (suc n) (b ∷ l) = b ∷ padded n l
 
 -- the name in front of a line: what is before a space or a newline
 unfoldable pub name_of : List ℕ → List ℕ

@@ -1,15 +1,15 @@
-// The text of an instruction, written into a room that the caller lends from `at` on. Each function
-// answers the place after what it wrote.
+// The text of an instruction, written where a cursor stands.
 #![tactic(auto)]
 
-ghost use Rattle.std.specs.Prelude.{◌≡◌, ◌∷◌, ◌++◌, ◌+◌, ◌≤◌, ◌<◌, length, drop};
+ghost use Rattle.std.specs.Prelude.{◌≡◌, ◌∷◌, ◌++◌, ◌<◌, nat_lt, length};
+ghost use Rattle.std.specs.List.{take_while};
 ghost use Rattle.ascii.specs.Numbers.{signed_decimal};
-ghost use Rattle.ascii.specs.Rooms.{Wrote};
+ghost use Rattle.ascii.specs.Rooms.{HasRoom, Appended};
 ghost use Rattle.text.specs.Names.{name_at};
-ghost use Rattle.text.specs.Samples.{sample_line, padded, name_of};
+ghost use Rattle.text.specs.Samples.{sample_line};
 ghost use Rattle.text.specs.Text.{space, comma, parens, register_text, shown, operands_of, text_of, short_text_of};
 
-use ascii::{put, put_decimal, put_signed};
+use ascii::Cursor;
 use isa::{Inst, Reg};
 use parts::parts_of;
 
@@ -21,177 +21,170 @@ pub enum Operand {
     Signed(u32),
 }
 
-// A line of each operation, in the paper's order, with 1, 2, 3 and 4 as rd, rs1, rs2 and immediate,
-// each in sixteen bytes: the names that the disassembler writes, and the shapes that the assembler
-// reads by.
-const LINES: [[u8; 16]; 48] = [
-    *b"lui x1,4\n\0\0\0\0\0\0\0",
-    *b"auipc x1,4\n\0\0\0\0\0",
-    *b"jal x1,4\n\0\0\0\0\0\0\0",
-    *b"jalr x1,4(x2)\n\0\0",
-    *b"beq x2,x3,4\n\0\0\0\0",
-    *b"bne x2,x3,4\n\0\0\0\0",
-    *b"blt x2,x3,4\n\0\0\0\0",
-    *b"bge x2,x3,4\n\0\0\0\0",
-    *b"bltu x2,x3,4\n\0\0\0",
-    *b"bgeu x2,x3,4\n\0\0\0",
-    *b"lb x1,4(x2)\n\0\0\0\0",
-    *b"lh x1,4(x2)\n\0\0\0\0",
-    *b"lw x1,4(x2)\n\0\0\0\0",
-    *b"lbu x1,4(x2)\n\0\0\0",
-    *b"lhu x1,4(x2)\n\0\0\0",
-    *b"sb x3,4(x2)\n\0\0\0\0",
-    *b"sh x3,4(x2)\n\0\0\0\0",
-    *b"sw x3,4(x2)\n\0\0\0\0",
-    *b"addi x1,x2,4\n\0\0\0",
-    *b"slti x1,x2,4\n\0\0\0",
-    *b"sltiu x1,x2,4\n\0\0",
-    *b"xori x1,x2,4\n\0\0\0",
-    *b"ori x1,x2,4\n\0\0\0\0",
-    *b"andi x1,x2,4\n\0\0\0",
-    *b"slli x1,x2,4\n\0\0\0",
-    *b"srli x1,x2,4\n\0\0\0",
-    *b"srai x1,x2,4\n\0\0\0",
-    *b"add x1,x2,x3\n\0\0\0",
-    *b"sub x1,x2,x3\n\0\0\0",
-    *b"sll x1,x2,x3\n\0\0\0",
-    *b"slt x1,x2,x3\n\0\0\0",
-    *b"sltu x1,x2,x3\n\0\0",
-    *b"xor x1,x2,x3\n\0\0\0",
-    *b"srl x1,x2,x3\n\0\0\0",
-    *b"sra x1,x2,x3\n\0\0\0",
-    *b"or x1,x2,x3\n\0\0\0\0",
-    *b"and x1,x2,x3\n\0\0\0",
-    *b"fence x1,x2,4\n\0\0",
-    *b"ecall\n\0\0\0\0\0\0\0\0\0\0",
-    *b"ebreak\n\0\0\0\0\0\0\0\0\0",
-    *b"mul x1,x2,x3\n\0\0\0",
-    *b"mulh x1,x2,x3\n\0\0",
-    *b"mulhsu x1,x2,x3\n",
-    *b"mulhu x1,x2,x3\n\0",
-    *b"div x1,x2,x3\n\0\0\0",
-    *b"divu x1,x2,x3\n\0\0",
-    *b"rem x1,x2,x3\n\0\0\0",
-    *b"remu x1,x2,x3\n\0\0",
+// What stands in front of the text of a short instruction.
+pub const SHORT: &[u8] = b"c:";
+
+// A line of each operation, in the paper's order, with 1, 2, 3 and 4 as rd, rs1, rs2 and immediate:
+// the names that the disassembler writes, and the shapes that the assembler reads by.
+const LINES: [&[u8]; 48] = [
+    b"lui x1,4\n",
+    b"auipc x1,4\n",
+    b"jal x1,4\n",
+    b"jalr x1,4(x2)\n",
+    b"beq x2,x3,4\n",
+    b"bne x2,x3,4\n",
+    b"blt x2,x3,4\n",
+    b"bge x2,x3,4\n",
+    b"bltu x2,x3,4\n",
+    b"bgeu x2,x3,4\n",
+    b"lb x1,4(x2)\n",
+    b"lh x1,4(x2)\n",
+    b"lw x1,4(x2)\n",
+    b"lbu x1,4(x2)\n",
+    b"lhu x1,4(x2)\n",
+    b"sb x3,4(x2)\n",
+    b"sh x3,4(x2)\n",
+    b"sw x3,4(x2)\n",
+    b"addi x1,x2,4\n",
+    b"slti x1,x2,4\n",
+    b"sltiu x1,x2,4\n",
+    b"xori x1,x2,4\n",
+    b"ori x1,x2,4\n",
+    b"andi x1,x2,4\n",
+    b"slli x1,x2,4\n",
+    b"srli x1,x2,4\n",
+    b"srai x1,x2,4\n",
+    b"add x1,x2,x3\n",
+    b"sub x1,x2,x3\n",
+    b"sll x1,x2,x3\n",
+    b"slt x1,x2,x3\n",
+    b"sltu x1,x2,x3\n",
+    b"xor x1,x2,x3\n",
+    b"srl x1,x2,x3\n",
+    b"sra x1,x2,x3\n",
+    b"or x1,x2,x3\n",
+    b"and x1,x2,x3\n",
+    b"fence x1,x2,4\n",
+    b"ecall\n",
+    b"ebreak\n",
+    b"mul x1,x2,x3\n",
+    b"mulh x1,x2,x3\n",
+    b"mulhsu x1,x2,x3\n",
+    b"mulhu x1,x2,x3\n",
+    b"div x1,x2,x3\n",
+    b"divu x1,x2,x3\n",
+    b"rem x1,x2,x3\n",
+    b"remu x1,x2,x3\n",
 ];
 
-// The line of an operation, with 0 after its end. Each use of the table writes all of it out, so a
-// reader takes its line once and not byte by byte.
-pub fn sample_line(operation: u8) -> [u8; 16]
+// The line of an operation.
+pub fn sample_line(operation: u8) -> &'static [u8]
     requires { operation < 48 }
-    ensures { result ≡ padded 16 (sample_line operation) }
+    ensures { result.now ≡ sample_line operation }
 {
     LINES[operation as usize]
 }
 
-// The name in front of a line, from its byte k on.
-fn put_name_from(room: &mut [u8], at: usize, line: [u8; 16], k: usize) -> usize
-    requires line_len { length line ≡ 16 }
-    requires line_in_bounds { at + length (name_of (drop k line)) ≤ length room.old }
-    ensures { Wrote room.old at (name_of (drop k line)) room.new result }
+// How many bytes a line has before its first space or newline.
+fn name_length(line: &[u8]) -> usize
+    ensures { result ≡ length (take_while (λ byte. nat_lt 32 byte) line.now) }
 {
-    if k >= 16 {
-        return at;
-    }
-    let byte = line[k];
-    if byte <= b' ' {
-        return at;
-    }
-    let next = put(room, at, byte);
-    put_name_from(room, next, line, k + 1)
+    line.iter().take_while(|byte| **byte > b' ').count()
 }
 
 // An operation's name.
-fn put_name(room: &mut [u8], at: usize, operation: u8) -> usize
-    requires { at + length (name_at operation) ≤ length room.old }
-    ensures { Wrote room.old at (name_at operation) room.new result }
+fn put_name(out: &mut Cursor, operation: u8)
+    requires { HasRoom out.old (name_at operation) }
+    ensures { Appended out.old (name_at operation) out.new }
 {
-    if operation >= 48 {
-        return at;
+    if operation < 48 {
+        let line = sample_line(operation);
+        out.put_all(&line[..name_length(line)]);
     }
-    put_name_from(room, at, sample_line(operation), 0)
 }
 
 // An operand with the space, comma or bracket before it.
-fn put_operand(room: &mut [u8], at: usize, before: u8, operand: Operand) -> usize
-    requires { at + length (before ∷ shown operand) ≤ length room.old }
-    ensures { Wrote room.old at (before ∷ shown operand) room.new result }
+fn put_operand(out: &mut Cursor, before: u8, operand: Operand)
+    requires { HasRoom out.old (before ∷ shown operand) }
+    ensures { Appended out.old (before ∷ shown operand) out.new }
 {
-    let next = put(room, at, before);
+    out.put(before);
     match operand {
         Operand::Register(reg) => {
-            let digits = put(room, next, b'x');
-            put_decimal(room, digits, reg.number())
+            out.put(b'x');
+            out.put_decimal(reg.number());
         }
-        Operand::Unsigned(n) => put_decimal(room, next, n),
-        Operand::Signed(n) => put_signed(room, next, n),
+        Operand::Unsigned(n) => out.put_decimal(n),
+        Operand::Signed(n) => out.put_signed(n),
     }
 }
 
 // " x6,524288"
-fn put_two(room: &mut [u8], at: usize, first: Reg, last: Operand) -> usize
-    requires { at + length (space (register_text first) ++ comma (shown last)) ≤ length room.old }
-    ensures { Wrote room.old at (space (register_text first) ++ comma (shown last)) room.new result }
+fn put_two(out: &mut Cursor, first: Reg, last: Operand)
+    requires { HasRoom out.old (space (register_text first) ++ comma (shown last)) }
+    ensures { Appended out.old (space (register_text first) ++ comma (shown last)) out.new }
 {
-    let next = put_operand(room, at, b' ', Operand::Register(first));
-    put_operand(room, next, b',', last)
+    put_operand(out, b' ', Operand::Register(first));
+    put_operand(out, b',', last);
 }
 
 // " x5,x6,31"
-fn put_three(room: &mut [u8], at: usize, first: Reg, second: Reg, last: Operand) -> usize
-    requires { at + length (space (register_text first) ++ comma (register_text second) ++ comma (shown last)) ≤ length room.old }
-    ensures { Wrote room.old at (space (register_text first) ++ comma (register_text second) ++ comma (shown last)) room.new result }
+fn put_three(out: &mut Cursor, first: Reg, second: Reg, last: Operand)
+    requires { HasRoom out.old (space (register_text first) ++ comma (register_text second) ++ comma (shown last)) }
+    ensures { Appended out.old (space (register_text first) ++ comma (register_text second) ++ comma (shown last)) out.new }
 {
-    let next = put_two(room, at, first, Operand::Register(second));
-    put_operand(room, next, b',', last)
+    put_two(out, first, Operand::Register(second));
+    put_operand(out, b',', last);
 }
 
 // " x2,-8(x1)"
-fn put_address(room: &mut [u8], at: usize, first: Reg, offset: u32, base: Reg) -> usize
-    requires { at + length (space (register_text first) ++ comma (signed_decimal offset) ++ parens (register_text base)) ≤ length room.old }
-    ensures { Wrote room.old at (space (register_text first) ++ comma (signed_decimal offset) ++ parens (register_text base)) room.new result }
+fn put_address(out: &mut Cursor, first: Reg, offset: u32, base: Reg)
+    requires { HasRoom out.old (space (register_text first) ++ comma (signed_decimal offset) ++ parens (register_text base)) }
+    ensures { Appended out.old (space (register_text first) ++ comma (signed_decimal offset) ++ parens (register_text base)) out.new }
 {
-    let bracket = put_two(room, at, first, Operand::Signed(offset));
-    let close = put_operand(room, bracket, b'(', Operand::Register(base));
-    put(room, close, b')')
+    put_two(out, first, Operand::Signed(offset));
+    put_operand(out, b'(', Operand::Register(base));
+    out.put(b')');
 }
 
-fn put_operands(room: &mut [u8], at: usize, i: Inst) -> usize
-    requires { at + length (operands_of i) ≤ length room.old }
-    ensures { Wrote room.old at (operands_of i) room.new result }
+#[tactic(auto, unfolding(crate::specs::Text::operands_of))]
+fn put_operands(out: &mut Cursor, i: Inst)
+    requires { HasRoom out.old (operands_of i) }
+    ensures { Appended out.old (operands_of i) out.new }
 {
     match i {
-        Inst::Lui(rd, field) => put_two(room, at, rd, Operand::Unsigned(field)),
-        Inst::Auipc(rd, field) => put_two(room, at, rd, Operand::Unsigned(field)),
-        Inst::Jal(rd, imm) => put_two(room, at, rd, Operand::Signed(imm)),
-        Inst::Jalr(rd, rs1, imm) => put_address(room, at, rd, imm, rs1),
-        Inst::Branch(_, rs1, rs2, imm) => put_three(room, at, rs1, rs2, Operand::Signed(imm)),
-        Inst::Load(_, rd, rs1, imm) => put_address(room, at, rd, imm, rs1),
-        Inst::Store(_, rs1, rs2, imm) => put_address(room, at, rs2, imm, rs1),
-        Inst::Imm(_, rd, rs1, imm) => put_three(room, at, rd, rs1, Operand::Signed(imm)),
-        Inst::Shift(_, rd, rs1, amount) => put_three(room, at, rd, rs1, Operand::Unsigned(amount)),
-        Inst::Arith(_, rd, rs1, rs2) => put_three(room, at, rd, rs1, Operand::Register(rs2)),
-        Inst::Fence(rd, rs1, field) => put_three(room, at, rd, rs1, Operand::Unsigned(field)),
-        Inst::Ecall => at,
-        Inst::Ebreak => at,
-        Inst::MulDiv(_, rd, rs1, rs2) => put_three(room, at, rd, rs1, Operand::Register(rs2)),
+        Inst::Lui(rd, field) | Inst::Auipc(rd, field) => {
+            put_two(out, rd, Operand::Unsigned(field));
+        }
+        Inst::Jal(rd, imm) => put_two(out, rd, Operand::Signed(imm)),
+        Inst::Jalr(rd, rs1, imm) | Inst::Load(_, rd, rs1, imm) => put_address(out, rd, imm, rs1),
+        Inst::Store(_, rs1, rs2, imm) => put_address(out, rs2, imm, rs1),
+        Inst::Branch(_, first, second, imm) | Inst::Imm(_, first, second, imm) => {
+            put_three(out, first, second, Operand::Signed(imm));
+        }
+        Inst::Shift(_, rd, rs1, field) | Inst::Fence(rd, rs1, field) => {
+            put_three(out, rd, rs1, Operand::Unsigned(field));
+        }
+        Inst::Arith(_, rd, rs1, rs2) | Inst::MulDiv(_, rd, rs1, rs2) => {
+            put_three(out, rd, rs1, Operand::Register(rs2));
+        }
+        Inst::Ecall | Inst::Ebreak => {}
     }
 }
 
-pub fn put_text(room: &mut [u8], at: usize, i: Inst) -> usize
-    requires { at + length (text_of i) ≤ length room.old }
-    ensures { Wrote room.old at (text_of i) room.new result }
+pub fn put_text(out: &mut Cursor, i: Inst)
+    requires { HasRoom out.old (text_of i) }
+    ensures { Appended out.old (text_of i) out.new }
 {
-    let operands = put_name(room, at, parts_of(i).operation);
-    put_operands(room, operands, i)
+    put_name(out, parts_of(i).operation);
+    put_operands(out, i);
 }
 
 // The text of a short instruction that stands for i.
-pub fn put_short_text(room: &mut [u8], at: usize, i: Inst) -> usize
-    requires { at + length (short_text_of i) ≤ length room.old }
-    ensures { Wrote room.old at (short_text_of i) room.new result }
+pub fn put_short_text(out: &mut Cursor, i: Inst)
+    requires { HasRoom out.old (short_text_of i) }
+    ensures { Appended out.old (short_text_of i) out.new }
 {
-    let colon = put(room, at, b'c');
-    let text = put(room, colon, b':');
-    put_text(room, text, i)
+    out.put_all(SHORT);
+    put_text(out, i);
 }

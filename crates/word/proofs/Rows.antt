@@ -1,28 +1,11 @@
 -- Looking a code up in a table: what holds of each row, where its code is the one looked up, holds of what is found.
-use mathlib.Core.Path.{◌≡◌, refl, sym, ap, ◌∙◌, subst⁻¹}
+use mathlib.Core.Path.{◌≡◌, refl, subst⁻¹}
 use mathlib.Core.Bool.{Bool, true, false, cond, ◌&&◌}
 use mathlib.Core.List.{List, [], ◌∷◌}
 use Prim.Native.Nat.{ℕ}
 use lib.Dec.{T, eqb, eqb→eq}
-use borrow.Author.Tests.{ne_eqb}
 use Rattle.word.specs.Tables.{find}
 use Rattle.word.proofs.Bools.{and_left, and_right}
-
--- k is in none of the rows, as a `match` says it in its `_`: nested to the left
-abbrev pub Rest : {A : Type 0} → List (ℕ × A) → ℕ → Type 0 → Type 0
-Rest [] k P = P
-Rest (r ∷ t) k P = Rest t k (P × (k ≡ r.0 → ⊥))
-
-first : {A : Type 0} (t : List (ℕ × A)) (k : ℕ) (P : Type 0) → Rest t k P → P
-first [] k P h = h
-first (r ∷ t) k P h = (first t k (P × (k ≡ r.0 → ⊥)) h).0
-
--- the answer of the arm `_`
-pub none : {A B : Type 0} (d : B) (t : List (ℕ × A)) (k : ℕ) (f : A → B) (P : Type 0) → Rest t k P → d ≡ find d t k f
-none d [] k f P h = refl
-none d (r ∷ t) k f P h =
-    none d t k f (P × (k ≡ r.0 → ⊥)) h
-    ∙ sym (ap (λ b. cond b (f r.1) (find d t k f)) (ne_eqb k r.0 (first t k (P × (k ≡ r.0 → ⊥)) h).1))
 
 -- a table's rows, one after the other
 infixr 10 ◌and◌

@@ -58,7 +58,8 @@ pub fn contracts(crate_name: &str, text: &str) -> Vec<Contract> {
     let mut lines = text.lines();
     while let Some(line) = lines.next() {
         if let Some(rest) = line.strip_prefix("impl ") {
-            owner = format!("{}::", rest.trim_end_matches(" {"));
+            let name = rest.trim_end_matches(" {");
+            owner = format!("{}::", name.split('<').next().unwrap_or(name));
         } else if line == "}" {
             owner.clear();
         }
@@ -116,8 +117,14 @@ fn clauses(head: &str, word: &str) -> Vec<String> {
         .collect()
 }
 
+/// The parameters, `self` among them with the type that its form stands for.
 fn parameters(inner: &str) -> Vec<Parameter> {
-    let pairs = inner.split(',').filter_map(|p| p.split_once(':'));
+    let pairs = inner.split(',').filter_map(|p| match p.trim() {
+        "self" => Some(("self", "Self")),
+        "&self" => Some(("self", "&Self")),
+        "&mut self" => Some(("self", "&mut Self")),
+        other => other.split_once(':'),
+    });
     pairs
         .map(|(name, kind)| Parameter {
             name: name.trim().to_string(),
@@ -138,8 +145,9 @@ const BUNDLES: [&str; 8] = [
     "tt",
 ];
 
-// The masks that a call was given, which stand in the bundle as they came: equal bundles have equal parts.
-const MASKS: &str = "(masks own other) ";
+// What a call was granted, as numbers or as one value, which stands in the bundle as it came: equal bundles have
+// equal parts.
+const GRANTS: [&str; 2] = ["(grant own other) ", "grant "];
 
 impl Contract {
     /// The parameters that are lent to be changed.
@@ -160,10 +168,13 @@ impl Contract {
         if self.lent().len() != self.mutable {
             return Some("something is lent that was not read");
         }
-        let [claim] = &self.ensures[..] else {
-            return Some("not one ensures");
+        let [claim, bounds @ ..] = &self.ensures[..] else {
+            return Some("no ensures");
         };
-        if let Some(text) = claim.strip_prefix("Wrote ") {
+        if bounds.iter().any(|bound| !self.is_bound(bound)) {
+            return Some("not one ensures");
+        }
+        if let Some(text) = claim.strip_prefix("Appended ") {
             return self.writer_flaw(text);
         }
         let sides: Vec<&str> = claim.split(" ≡ ").collect();
@@ -176,9 +187,24 @@ impl Contract {
         self.bundle_flaw(left).or(self.input_flaw(right))
     }
 
+    /// Whether it only says once more how large the result is at most: a caller that casts it need not look
+    /// into the equation.
+    fn is_bound(&self, claim: &str) -> bool {
+        let limit = claim.strip_prefix("result < ");
+        limit.is_some_and(|limit| is_whole(limit) && self.input_flaw(limit).is_none())
+    }
+
     /// The left side is the result and every lent buffer at exit, each once, and nothing else.
     fn bundle_flaw(&self, left: &str) -> Option<&'static str> {
-        let rest = left.replacen(MASKS, "", 1);
+        let rest = GRANTS.iter().fold(left.to_string(), |rest, granted| {
+            rest.replacen(granted, "", 1)
+        });
+        // a lent result is told by what it holds
+        let rest = if self.answer.starts_with('&') {
+            rest.replacen("result.now", "result", 1)
+        } else {
+            rest
+        };
         let exits: Vec<String> = self.lent().iter().map(|b| format!("{b}.new")).collect();
         let count = |one: &str| words(&rest).filter(|word| *word == one).count();
         if exits.iter().any(|exit| count(exit) != 1) {
@@ -194,16 +220,17 @@ impl Contract {
         (!is_bundle).then_some("the left is no bundle")
     }
 
-    /// `Wrote before at TEXT after end`: both equations of `Wrote` are of this form.
+    /// `Appended before TEXT after`, of a cursor: all the equations of `Appended` are of this form.
     fn writer_flaw(&self, text: &str) -> Option<&'static str> {
-        let inner = text.strip_prefix("room.old at ");
-        let inner = inner.and_then(|t| t.strip_suffix(" room.new result"));
+        let lent = self.lent();
+        let ([out], true) = (&lent[..], self.answer.is_empty()) else {
+            return Some("not a writer");
+        };
+        let inner = text.strip_prefix(&format!("{out}.old "));
+        let inner = inner.and_then(|t| t.strip_suffix(&format!(" {out}.new")));
         let Some(inner) = inner else {
             return Some("not what a writer promises");
         };
-        if self.lent() != ["room"] || self.answer.is_empty() {
-            return Some("not a writer");
-        }
         if !is_whole(inner) {
             return Some("the writer's promise is a part of something else");
         }

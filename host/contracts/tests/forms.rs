@@ -33,16 +33,13 @@ fn every_public_contract_is_an_equation() {
 }
 
 // What a host calls, besides the exports.
-const ENTRIES: [&str; 21] = [
+const ENTRIES: [&str; 18] = [
     "assembler::assemble",
     "machine::step",
-    "machine::step_masked",
     "machine::run",
-    "machine::run_masked",
     "slots::write_slot",
     "slots::read_slot",
     "resume::run_slot",
-    "resume::run_slot_masked",
     "boards::check_start",
     "fuses::check_row",
     "disassembler::text_of_word",
@@ -193,35 +190,45 @@ fn other_forms_are_flaws() {
         (" -> u8", "outcome result m.new ≡ f k"),
         // an unknown predicate
         (" -> u8", "Good result m.new"),
-        // a writer that leaves its end free
-        (" -> u8", "Wrote room.old at s room.new s"),
+        // a writer that answers what nothing is said of
+        (" -> u8", "Appended m.old s m.new"),
     ];
     for (answer, ensures) in flaws {
         assert!(function(answer, ensures).flaw().is_some(), "{ensures}");
     }
 }
 
-/// A writer into a room, with this promise.
+/// A writer by a cursor, with this promise.
 fn writer(ensures: &str) -> Contract {
-    let text = format!(
-        "pub fn put(room: &mut [u8], at: usize, s: u32) -> usize\n    ensures {{ {ensures} }}\n{{\n"
-    );
+    let text = format!("pub fn put(out: &mut Cursor, s: u32)\n    ensures {{ {ensures} }}\n{{\n");
     contracts("some", &text).remove(0)
 }
 
 #[test]
 fn writers_say_what_they_wrote_and_where_it_ends() {
-    let whole = writer("Wrote room.old at (decimal s) room.new result");
+    let whole = writer("Appended out.old (decimal s) out.new");
     assert_eq!(whole.flaw(), None);
     let flaws = [
-        "Wrote room.old at (decimal s) room.new s",
-        "Wrote room.new at (decimal s) room.new result",
-        "Wrote room.old s (decimal s) room.new result",
-        "Wrote room.old at (decimal result) room.new result",
-        "Wrote room.old at room.new room.new result",
-        "Wrote room.old at s room.old s ⊎ Wrote room.old at s room.new result",
+        "Appended out.old (decimal s) s",
+        "Appended out.new (decimal s) out.new",
+        "Appended s (decimal s) out.new",
+        "Appended out.old (decimal out.new) out.new",
+        "Appended out.old out out.new",
+        "Appended out.old s out.old ⊎ Appended out.old s out.new",
     ];
     for ensures in flaws {
         assert!(writer(ensures).flaw().is_some(), "{ensures}");
     }
+}
+
+#[test]
+fn methods_belong_to_their_type_and_lend_it() {
+    let text = "impl Cursor<'_> {\n    pub fn put(&mut self, byte: u8)\n        \
+                ensures { Appended self.old (byte ∷ []) self.new }\n    {\n    }\n}\n";
+    let [put] = &contracts("some", text)[..] else {
+        panic!("one method");
+    };
+    assert_eq!(put.name, "some::Cursor::put");
+    assert_eq!(put.lent(), ["self"]);
+    assert_eq!(put.flaw(), None);
 }

@@ -1,23 +1,24 @@
 -- `assembler::assemble` meets its contract: a line is at fault, the room is too short, or the output is written.
-use native.Mathlib.Omega.{arith}
+use Rattle.std.proofs.Common.{arith, rules}
 use Rattle.assembler.proofs.Passes.{refused-line, small_room, filled-room}
 use Rattle.assembler.proofs.assemble.Goals as goal
 
-pub returns-in_default : goal.returns-in_default
-returns-in_default c =
+pub returns-in_err-length : goal.returns-in_err-length
+returns-in_err-length c =
     let a = c.args in
-    let m = c.measure-measured in
-    refused-line a.text.now a.room.now m.result m.ensures c.in_default.field-0 c.in_default.field-1 c.in_default.field-2 c.in_default.is
+    let m = c.measure in
+    let refused = refused-line a.text.now a.room.now m.result m.ensures _ c.in_err-length.was in
+    search rules
 
 pub returns-then-length-room : goal.returns-then-length-room
 returns-then-length-room c =
     let a = c.args in
-    let m = c.measure-measured in
-    small_room a.text.now a.room.now m.result m.ensures c.in-Length.length c.in-Length.is (omega arith)
+    let m = c.measure in
+    small_room a.text.now a.room.now m.result m.ensures c.in_ok-length.length c.in_ok-length.was (omega arith)
 
 pub returns : goal.returns
 returns c =
     let a = c.args in
-    let m = c.measure-measured in
+    let m = c.measure in
     let w = c.write_lines in
-    filled-room a.text.now a.room.now m.result m.ensures c.in-Length.length c.in-Length.is (omega arith) w.result _ w.ensures
+    filled-room a.text.now a.room.now m.result m.ensures c.in_ok-length.length c.in_ok-length.was (omega arith) w.result _ w.ensures

@@ -1,24 +1,6 @@
--- `text_of_word` meets its contract: the room's test, then what the bits mean, decide as the contract's do; the text is written from 0 on.
-use native.Mathlib.Omega.{arith}
-use mathlib.Core.Path.{sym, ap, ◌∙◌}
-use Rattle.disassembler.specs.Entries.{legal_checked}
-use Rattle.disassembler.proofs.Outcomes.{word_fits, no_room, text-refused, text-written}
+-- The text of what 32 bits mean fits.
+use Rattle.disassembler.proofs.Outcomes.{word_fits}
 use Rattle.disassembler.proofs.text_of_word.Goals as goal
 
-pub returns-then-room-lt-ROOM : goal.returns-then-room-lt-ROOM
-returns-then-room-lt-ROOM c = no_room _ _ _ (omega arith)
-
-pub returns-in_default : goal.returns-in_default
-returns-in_default c =
-    let d = c in
-    text-refused _ d.if-room-lt-ROOM.false _ (ap legal_checked (sym d.decode.ensures ∙ c.in_default.is))
-
-pub put_text-requires : goal.put_text-requires
-put_text-requires c = omega (arith, word_fits _ c.decode.ensures c.in-Legal.is)
-
-pub returns : goal.returns
-returns c =
-    let text = c in
-    let told = text.in-Legal.is in
-    let d = text in
-    rw (← d.decode.ensures, told) (text-written _ d.if-room-lt-ROOM.false (word_fits _ d.decode.ensures told) text.put_text.ensures)
+pub write_text-requires : goal.write_text-requires
+write_text-requires c = rw (c.ok_or.ensures.value, c.decode.ensures) (word_fits _ _)

@@ -2,10 +2,10 @@
 use Rattle.engine.specs.Steps.{act_fetched}
 use Rattle.engine.proofs.act_at.Goals as goal
 
-pub returns-in-Instruction : goal.returns-in-Instruction
+pub returns-in-Ok : goal.returns-in-Ok
 unfolding act_fetched
-returns-in-Instruction c = rw (← c.fetch-found.ensures, c.in-Instruction.is) (rw c.add.ensures at c.decide.ensures)
+returns-in-Ok c = rw (← c.fetch.ensures, c.in-Ok.is) (rw c.add.ensures at c.decide.ensures)
 
-pub returns-in-Fails : goal.returns-in-Fails
+pub returns-in-Err : goal.returns-in-Err
 unfolding act_fetched
-returns-in-Fails c = rw (← c.fetch-found.ensures, c.in-Fails.is)
+returns-in-Err c = rw (← c.fetch.ensures, c.in-Err.is)

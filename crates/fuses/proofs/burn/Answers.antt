@@ -4,4 +4,4 @@ use Rattle.fuses.proofs.burn.Goals as goal
 
 pub returns : goal.returns
 unfolding burnt
-returns c = rw (c.store1.ensures, c.store4.ensures)
+returns c = rw (c.store-2.ensures, c.store.ensures, c.from.ensures)

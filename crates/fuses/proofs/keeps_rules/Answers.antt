@@ -6,4 +6,4 @@ use Rattle.fuses.proofs.keeps_rules.Goals as goal
 pub returns : goal.returns
 returns c =
     let at = c.args in
-    rw (c.load4-value.ensures, c.load4-upper.ensures) (upper_rules at.k at.row.now (omega arith) (omega arith))
+    rw (c.load-value.ensures.value, c.load-upper.ensures.value) (upper_rules at.k at.row.now (omega arith) (omega arith))

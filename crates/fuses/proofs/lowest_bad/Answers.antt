@@ -1,27 +1,26 @@
--- `fuses::lowest_bad` meets its contract. The loop's invariant: the records passed keep the rules; so the first that breaks them is the lowest.
-use native.Mathlib.Numerals.{add-one}
-use native.Mathlib.Omega.{arith}
-use mathlib.Core.Path.{◌≡◌, refl, sym, ◌∙◌}
-use borrow.Author.Rules.{rules}
-use Rattle.fuses.specs.Row.{all_keep}
-use Rattle.fuses.proofs.Rows.{lowest-is, lowest-all}
+-- The first record that breaks the rules is the lowest.
+use Rattle.std.proofs.Common.{◌≡◌, refl, sym, ◌∙◌, false, ◌<◌, add-one, arith}
+use Rattle.fuses.specs.Row.{all_keep, keeps_rules}
+use Rattle.fuses.proofs.Rows.{lowest-is, one_breaks}
 use Rattle.fuses.proofs.lowest_bad.Goals as goal
-
-pub loop-k-init : goal.loop-k-init
-unfolding all_keep
-loop-k-init c = (search rules, refl)
 
 pub returns-then-not-keeps_rules : goal.returns-then-not-keeps_rules
 returns-then-not-keeps_rules c =
-    sym (lowest-is 64 _ _ (omega arith) c.loop-k.invariant.1 (sym c.keeps_rules.ensures ∙ c.if-not-keeps_rules.true))
+    let k = c.loop-k.k in
+    let row = c.args.row.now in
+    let below : k < 64 = omega arith in
+    let breaks : keeps_rules k row ≡ false = sym (rw c.from.ensures at c.keeps_rules.ensures) ∙ c.if-not-keeps_rules.true in
+    rw (one_breaks 64 k row below breaks, lowest-is 64 k row below c.loop-k.invariant breaks)
+
+pub loop-k-init : goal.loop-k-init
+unfolding all_keep
+loop-k-init c = refl
 
 pub loop-k-preserved : goal.loop-k-preserved
 unfolding all_keep
-loop-k-preserved c =
-    (search rules, rw (add-one, c.loop-k.invariant.1) (sym c.keeps_rules.ensures ∙ c.if-not-keeps_rules.false))
+loop-k-preserved c = rw (add-one, c.loop-k.invariant) (sym (rw c.from.ensures at c.keeps_rules.ensures) ∙ c.if-not-keeps_rules.false)
 
 pub returns : goal.returns
 returns c =
-    let l = c.loop-k in
-    let e : l.k ≡ 64 = omega arith in
-    sym (lowest-all _ (rw e at l.invariant.1))
+    let all : c.loop-k.k ≡ 64 = omega arith in
+    rw (rw all at c.loop-k.invariant)

@@ -1,19 +1,40 @@
 -- Eight digits, a space, so many digits and a space, one after another.
 use native.Mathlib.Omega.{arith}
 use Rattle.ascii.proofs.Numbers.{hex-length}
-use Rattle.ascii.proofs.Rooms.{then}
+use Rattle.ascii.proofs.Rooms.{in_turn, moved}
+use Rattle.listing.proofs.Lines.{front_length}
 use Rattle.listing.proofs.put_front.Goals as goal
 
-pub put-number-requires : goal.put-number-requires
-put-number-requires c = omega (arith, hex-length 8 c.args.address)
-
-pub put_hex-end-requires : goal.put_hex-end-requires
-put_hex-end-requires c = omega (arith, hex-length 8 c.args.address)
+pub put_hex-requires : goal.put_hex-requires
+put_hex-requires c = omega (arith, c.requires, front_length c.args.address c.args.digits c.args.bits, hex-length 8 c.args.address)
 
 pub put-requires : goal.put-requires
-put-requires c =
-    let at = c.args in
-    omega (arith, hex-length 8 at.address, hex-length at.digits at.bits)
+put-requires c = omega (arith, c.requires, front_length c.args.address c.args.digits c.args.bits, hex-length 8 c.args.address, moved c.put_hex.ensures)
+
+pub put_hex-requires-2 : goal.put_hex-requires-2
+put_hex-requires-2 c =
+    omega (
+      arith,
+      c.requires,
+      front_length c.args.address c.args.digits c.args.bits,
+      hex-length 8 c.args.address,
+      hex-length c.args.digits c.args.bits,
+      moved c.put_hex.ensures,
+      moved c.put.ensures,
+    )
+
+pub put-requires-2 : goal.put-requires-2
+put-requires-2 c =
+    omega (
+      arith,
+      c.requires,
+      front_length c.args.address c.args.digits c.args.bits,
+      hex-length 8 c.args.address,
+      hex-length c.args.digits c.args.bits,
+      moved c.put_hex.ensures,
+      moved c.put.ensures,
+      moved c.put_hex-2.ensures,
+    )
 
 pub returns : goal.returns
-returns c = then (then (then c.put_hex-space.ensures c.put-number.ensures) c.put_hex-end.ensures) c.put.ensures
+returns c = in_turn (in_turn (in_turn c.put_hex.ensures c.put.ensures) c.put_hex-2.ensures) c.put-2.ensures

@@ -1,9 +1,6 @@
-use Rattle.std.proofs.Common.{◌≡◌, ◌-◌, ◌≤◌, length, drop}
+use Rattle.std.proofs.Common.{◌≡◌, ◌+◌, drop}
 use Rattle.numerals.specs.Numbers.{digits_on, digits_at}
 use Rattle.numerals.proofs.read_digits.Given as goal
 
-abbrev pub invariant-loop-at : goal.invariant-loop-at
-invariant-loop-at l = (l.at ≤ length l.text) × (digits_on l.at l.value (drop l.at l.text) ≡ digits_at l.from (drop l.from l.text))
-
-abbrev pub decreases-loop-at : goal.decreases-loop-at
-decreases-loop-at l = length l.text - l.at
+abbrev pub invariant-loop-b : goal.invariant-loop-b
+invariant-loop-b l = (l.end ≡ l.from + l.b-index) × (digits_on l.end l.value (drop l.end l.text) ≡ digits_at l.from (drop l.from l.text))

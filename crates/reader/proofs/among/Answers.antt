@@ -1,20 +1,19 @@
--- The invariant: none of the operations before reads, and the place is the furthest of theirs. The operations left fall.
-use mathlib.Core.Path.{sym, ◌∙◌}
-use native.Mathlib.Omega.{arith}
+-- The invariant: none of the operations before reads, and the place is the furthest of theirs.
+use Rattle.std.proofs.Common.{Ok, ap, sym, ◌∙◌, arith}
 use Rattle.reader.proofs.Choosing.{nothing_yet, found, one_more}
 use Rattle.reader.proofs.among.Goals as goal
 
-pub loop-k-init : goal.loop-k-init
-loop-k-init c = let a = c.args in (omega arith, nothing_yet a.short a.from a.text.now)
+pub loop-operation-init : goal.loop-operation-init
+loop-operation-init c = let a = c.args in nothing_yet a.short a.from a.text.now
 
-pub returns-in-At : goal.returns-in-At
-returns-in-At c =
+pub returns-in-Ok : goal.returns-in-Ok
+returns-in-Ok c =
     let a = c.args in
-    let l = c.loop-k in
-    found a.short a.from a.text.now l.k l.place c.in-At.n c.in-At.fields l.invariant.1 (sym c.in-At.is ∙ c.follow.ensures) (omega arith)
+    let l = c.loop-operation in
+    ap Ok c.line.ensures ∙ found a.short a.from a.text.now l.operation l.furthest _ _ l.invariant (sym c.in-Ok.is ∙ c.follow.ensures) (omega arith)
 
-pub loop-k-preserved : goal.loop-k-preserved
-loop-k-preserved c =
+pub loop-operation-preserved : goal.loop-operation-preserved
+loop-operation-preserved c =
     let a = c.args in
-    let l = c.loop-k in
-    (omega arith, one_more a.short a.from a.text.now l.k l.place c.in-Stuck.n c.larger-place.result l.invariant.1 (sym c.in-Stuck.is ∙ c.follow.ensures) c.larger-place.ensures)
+    let l = c.loop-operation in
+    one_more a.short a.from a.text.now l.operation l.furthest c.in-Err.at c.max-furthest.result l.invariant (sym c.in-Err.is ∙ c.follow.ensures) c.max-furthest.ensures

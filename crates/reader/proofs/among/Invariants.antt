@@ -1,11 +1,6 @@
-use mathlib.Core.Path.{◌≡◌}
-use Prim.Native.Nat.{◌≤◌, ◌-◌}
-use Rattle.reader.specs.declared.Line.TheVariants.{Unreadable}
-use Rattle.reader.specs.Line.{among_from}
+use Rattle.std.proofs.Common.{◌≡◌}
+use Rattle.reader.specs.Line.{Unreadable, among_from}
 use Rattle.reader.proofs.among.Given as goal
 
-abbrev pub invariant-loop-k : goal.invariant-loop-k
-invariant-loop-k l = (l.k ≤ 48) × (among_from l.short l.from l.k l.text ≡ Unreadable l.place)
-
-abbrev pub decreases-loop-k : goal.decreases-loop-k
-decreases-loop-k l = 48 - l.k
+abbrev pub invariant-loop-operation : goal.invariant-loop-operation
+invariant-loop-operation l = among_from l.short l.from l.operation l.text ≡ Unreadable l.furthest

@@ -10,5 +10,5 @@ use Rattle.records.proofs.check_record.Goals as goal
 pub returns : goal.returns
 returns c =
     let m = c.args.part.now in
-    let zeros = after_stop m (omega arith) (omega (arith, c.shared_slice_known-1.given 136)) in
-    rw (c.check.ensures, c.read_record.ensures, c.load4.ensures) (ap (λ v. form_checked (eqb v 0) (state_of m)) zeros)
+    let zeros = after_stop m (omega arith) (omega (arith, c.type_inv.part 136)) in
+    rw (c.check.ensures, c.read_record.ensures, c.load.ensures.value) (ap (λ v. form_checked (eqb v 0) (state_of m)) zeros)

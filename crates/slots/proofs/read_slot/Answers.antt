@@ -1,27 +1,23 @@
 -- `read_slot` meets its contract: the slot's test, then the record's, decide as the contract's do; the part that is read is the slot.
 use mathlib.Core.Path.{refl}
+use Rattle.std.proofs.lemmas.Result.{err_from_is_err_and}
 use Rattle.answers.proofs.Entries.{is-refused, is-given}
-use Rattle.slots.specs.Slots.{no_read}
 use Rattle.slots.proofs.Slots.{one_record}
 use Rattle.slots.proofs.read_slot.Goals as goal
+use Rattle.std.specs.Prelude.{Err}
 
-pub returns-then-not-is_slot : goal.returns-then-not-is_slot
-returns-then-not-is_slot c =
-    let slot = c.is_slot in
-    rw c.none.ensures (is-refused _ no_read tt refl (rw (← slot.ensures, c.if-not-is_slot.true)))
+pub returns-else-is_slot : goal.returns-else-is_slot
+returns-else-is_slot c = is-refused _ Err tt refl (rw (← c.is_slot.ensures, c.if-is_slot.false))
 
-pub returns-in-Refused : goal.returns-in-Refused
-returns-in-Refused c =
-    let checked = c in
-    let slot = checked.is_slot in
-    rw c.none-in-Refused.ensures
-    (is-refused _ no_read tt refl
-    (rw (← slot.ensures, checked.if-not-is_slot.false, ← (rw one_record at checked.check_record.ensures)) c.in-Refused.is))
+pub returns-in_err-check_record : goal.returns-in_err-check_record
+returns-in_err-check_record c =
+    let p = err_from_is_err_and c.from_residual.result c.from_residual.ensures.1 in
+    rw (p.1, p.2)
+    (is-refused _ Err tt refl
+    (rw (← c.is_slot.ensures, c.if-is_slot.true, ← (rw one_record at c.check_record.ensures)) c.in_err-check_record.was))
 
-pub returns : goal.returns
-returns c =
-    let checked = c in
-    let slot = checked.is_slot in
-    is-given no_read tt refl
-    (rw (← slot.ensures, checked.if-not-is_slot.false, ← (rw one_record at checked.check_record.ensures)) c.in_default.is)
+pub returns-in_ok-check_record : goal.returns-in_ok-check_record
+returns-in_ok-check_record c =
+    is-given Err tt refl
+    (rw (← c.is_slot.ensures, c.if-is_slot.true, ← (rw one_record at c.check_record.ensures)) c.in_ok-check_record.was)
     (rw (c.read_record.ensures, one_record))

@@ -1,19 +1,25 @@
 -- A sample line begins with its name.
 use native.Mathlib.Omega.{arith}
-use Rattle.ascii.proofs.Rooms.{nothing}
-use Rattle.text.proofs.Samples.{no_name, name_first}
+use mathlib.Core.Path.{ap, sym, ◌∙◌}
+use lib.Seq.{length-take-le}
+use Rattle.ascii.proofs.Rooms.{put_nothing}
+use Rattle.text.specs.Samples.{name_of}
+use Rattle.text.proofs.Samples.{no_name, name_first, name_taken, name_short}
 use Rattle.text.proofs.put_name.Goals as goal
 
-pub returns-then-operation-ge48 : goal.returns-then-operation-ge48
-returns-then-operation-ge48 c = let a = c.args in rw (no_name a.operation (omega arith)) (nothing a.room.now a.at)
+pub slice_bounds-put_all-end : goal.slice_bounds-put_all-end
+slice_bounds-put_all-end c = sym (length-take-le _ c.sample_line-line.result.now (omega (arith, c.name_length.ensures, name_short c.sample_line-line.result.now)))
 
-pub put_name_from-requires-clause-line_in_bounds : goal.put_name_from-requires-clause-line_in_bounds
-put_name_from-requires-clause-line_in_bounds c =
-    let a = c.args in
-    let l = c.sample_line in
-    rw (l.ensures, name_first a.operation (omega arith)) (omega arith)
+pub put_all-requires : goal.put_all-requires
+put_all-requires c =
+    let name = name_taken c.sample_line-line.result.now ∙ ap name_of c.sample_line-line.ensures ∙ name_first c.args.operation c.if-operation-lt48.true in
+    rw (c.name_length.ensures, name) c.requires
 
-pub returns : goal.returns
-returns c =
-    let a = c.args in
-    rw (← name_first a.operation (omega arith), ← c.sample_line.ensures) c.put_name_from.ensures
+pub returns-then-operation-lt48 : goal.returns-then-operation-lt48
+returns-then-operation-lt48 c =
+    let name = name_taken c.sample_line-line.result.now ∙ ap name_of c.sample_line-line.ensures ∙ name_first c.args.operation c.if-operation-lt48.true in
+    rw (c.name_length.ensures, name) at c.put_all.ensures
+
+pub returns-else-operation-lt48 : goal.returns-else-operation-lt48
+returns-else-operation-lt48 c =
+    rw (no_name c.args.operation c.if-operation-lt48.false) (put_nothing _)

@@ -1,21 +1,17 @@
 -- C, a colon, then the text.
-use native.Mathlib.Omega.{arith}
-use Rattle.ascii.proofs.Rooms.{then}
-use Rattle.text.specs.Text.{short_text_of}
+use Rattle.ascii.proofs.Rooms.{in_turn, room_before, room_after}
+use Rattle.ascii.specs.Ascii.{bytes}
+use Rattle.text.specs.Text.{text_of, short_text_of}
 use Rattle.text.proofs.put_short_text.Goals as goal
 
-pub put-colon-requires : goal.put-colon-requires
+pub put_all-requires : goal.put_all-requires
 unfolding short_text_of
-put-colon-requires c = omega arith
-
-pub put-text-requires : goal.put-text-requires
-unfolding short_text_of
-put-text-requires c = omega arith
+put_all-requires c = room_before c.args.out.now (bytes "c:") (text_of c.args.i) c.requires
 
 pub put_text-requires : goal.put_text-requires
 unfolding short_text_of
-put_text-requires c = omega arith
+put_text-requires c = room_after _ c.put_all.ensures c.requires
 
 pub returns : goal.returns
 unfolding short_text_of
-returns c = then (then c.put-colon.ensures c.put-text.ensures) c.put_text.ensures
+returns c = in_turn c.put_all.ensures c.put_text.ensures
