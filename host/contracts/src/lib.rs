@@ -51,17 +51,24 @@ fn read(source: &Path) -> Vec<Contract> {
     contracts(&name, &text)
 }
 
-/// The public functions of one source.
+/// The public functions of one source, and those of a trait that a type has in it.
 pub fn contracts(crate_name: &str, text: &str) -> Vec<Contract> {
     let mut found = Vec::new();
     let mut owner = String::new();
+    // what a trait's functions promise, by the laws' names, inside `impl TRAIT for TYPE {`
+    let mut laws: Option<Vec<(&str, String)>> = None;
     let mut lines = text.lines();
     while let Some(line) = lines.next() {
-        if let Some(rest) = line.strip_prefix("impl ") {
-            let name = rest.trim_end_matches(" {");
-            owner = format!("{}::", name.split('<').next().unwrap_or(name));
+        if let Some((kind, name)) = impl_of(line) {
+            owner = format!("{name}::");
+            laws = (kind.is_some() && !is_private(text, name)).then(Vec::new);
         } else if line == "}" {
             owner.clear();
+            laws = None;
+        } else if let (Some(laws), Some(law)) = (&mut laws, law(line)) {
+            laws.push(law);
+        } else if let (Some(laws), Some(start)) = (&laws, line.trim_start().strip_prefix("fn ")) {
+            found.push(of_trait(&format!("{crate_name}::{owner}"), start, laws));
         }
         let Some(start) = public_function(line) else {
             continue;
@@ -76,6 +83,62 @@ pub fn contracts(crate_name: &str, text: &str) -> Vec<Contract> {
         found.push(contract(&format!("{crate_name}::{owner}"), &head));
     }
     found
+}
+
+/// `impl TRAIT for TYPE {` and `impl<'a> TRAIT for TYPE<'a> {`, or without a trait: the trait, if there is one, and
+/// the type, without what stands in brackets.
+fn impl_of(line: &str) -> Option<(Option<&str>, &str)> {
+    let rest = line.strip_prefix("impl")?.strip_suffix(" {")?;
+    let rest = match rest.strip_prefix('<') {
+        Some(bounds) => bounds.split_once("> ")?.1,
+        None => rest.strip_prefix(' ')?,
+    };
+    let (kind, name) = match rest.split_once(" for ") {
+        Some((kind, name)) => (Some(kind), name),
+        None => (None, rest),
+    };
+    Some((kind, name.split('<').next().unwrap_or(name)))
+}
+
+/// Whether the source keeps a type to itself; a type that it does not have is another crate's, and public.
+fn is_private(text: &str, name: &str) -> bool {
+    text.lines().any(|line| {
+        let rest = line.strip_prefix("struct ").or(line.strip_prefix("enum "));
+        rest.is_some_and(|rest| rest.split(|c| !is_of_a_word(c)).next() == Some(name))
+    })
+}
+
+fn is_of_a_word(c: char) -> bool {
+    c.is_alphanumeric() || c == '_'
+}
+
+/// What an impl of a trait promises in a line `ghost from_gives = { λ why r. r ≡ refusal_of why };`: the name of its
+/// law, and the claim, with `result` for the last name, as the claims of `ensures` have it. Of a law that is no
+/// such line there is nothing, so the function has no promise, which is a flaw.
+fn law(line: &str) -> Option<(&str, String)> {
+    let (name, rest) = line
+        .trim_start()
+        .strip_prefix("ghost ")?
+        .split_once(" = { λ ")?;
+    let (names, claim) = rest.strip_suffix(" };")?.split_once(". ")?;
+    let answer = names.split(' ').next_back()?;
+    let mut named = String::new();
+    for piece in claim.split_inclusive(|c| !is_of_a_word(c)) {
+        let word = piece.trim_end_matches(|c| !is_of_a_word(c));
+        named += if word == answer { "result" } else { word };
+        named += &piece[word.len()..];
+    }
+    Some((name, named))
+}
+
+/// A function of a trait, which asks nothing and promises its law, as `from_gives` of `from`.
+fn of_trait(owner: &str, head: &str, laws: &[(&str, String)]) -> Contract {
+    let mut made = contract(owner, head);
+    let (_, name) = made.name.rsplit_once("::").expect("the crate's name");
+    let law = format!("{name}_gives");
+    let own = laws.iter().filter(|(name, _)| *name == law);
+    made.ensures = own.map(|(_, claim)| claim.clone()).collect();
+    made
 }
 
 /// What follows `pub fn` or `pub extern "C" fn`.

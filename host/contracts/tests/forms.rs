@@ -124,6 +124,42 @@ fn clauses_of_every_form_are_read() {
 }
 
 #[test]
+fn a_function_of_a_trait_promises_its_law() {
+    let all = |head: &str, law: &str| {
+        let text = format!(
+            "{head} {{\n    ghost use C.{{b_of}};\n\n    {law}\n\n    fn from(a: A) -> B {{\n        b(a)\n    }}\n}}\n\n\
+             fn f() {{\n"
+        );
+        contracts("some", &text)
+    };
+    let of = |law: &str| {
+        let [from] = &all("impl From<A> for B", law)[..] else {
+            panic!("one function");
+        };
+        from.clone()
+    };
+    let law = "ghost from_gives = { λ a r. r ≡ b_of (r_of a) };";
+    let from = of(law);
+    assert_eq!((&*from.name, &*from.answer), ("some::B::from", "B"));
+    assert_eq!(from.ensures, ["result ≡ b_of (r_of a)"]);
+    assert_eq!(from.flaw(), None);
+    assert_eq!(all("impl<'a> From<A> for B<'a>", law), [from]);
+    assert_eq!(all("struct B(u8);\n\nimpl From<A> for B", law), []);
+    for other in [
+        "",
+        "ghost next_gives = { λ a r. r ≡ b_of a };",
+        "ghost from_all_gives = { λ a r. r ≡ b_of a };",
+        "ghost from_gives = { b_of };",
+        "ghost from_gives = { λ a r. b_of a };",
+        "ghost from_gives = { λ a r. r ≡ b_of r };",
+        "ghost from_gives = { λ a r. r ≡ b_of (r) };",
+        "ghost from_gives = { λ a r. r ≡ b_of (f r) };",
+    ] {
+        assert!(of(other).flaw().is_some(), "{other}");
+    }
+}
+
+#[test]
 fn a_clause_of_several_lines_is_a_flaw() {
     let text = "pub fn f(s: u32) -> u32\n    ensures {\n        result ≡ s\n    }\n{\n";
     assert!(contracts("some", text)[0].flaw().is_some());
