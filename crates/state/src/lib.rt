@@ -31,13 +31,14 @@ pub fn read(x: &[u32; 31], r: Reg) -> u32
 }
 
 // A register has v; a write to x0 is dropped. Every element is stored, at an index that is known once
-// the loop is unrolled: a store at n - 1 would have the whole array copied out of the state and back.
+// the loop is unrolled: a store at n - 1 would have the whole array copied out of the state and back,
+// and of an `if` in the loop the compiler makes just that store.
 fn write(x: &mut [u32; 31], r: Reg, v: u32)
     ensures { x.new ≡ register_set r v x.old }
 {
     let n = r.number() as usize;
     for (k, word) in x.iter_mut().enumerate() {
-        *word = if k + 1 == n { v } else { *word };
+        *word = (k + 1 == n).then_some(v).unwrap_or(*word);
     }
 }
 
