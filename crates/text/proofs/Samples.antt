@@ -1,21 +1,17 @@
 -- The 48 sample lines, which antt computes: the table has them, and each begins with its name.
-use Rattle.std.proofs.Common.{Bor, map, slice_index_or}
+use Rattle.std.proofs.Common.{Bor, map, slice_index_or, ◌+◌, add-one, drop, drop-cons, drop_of_length-le}
 use Rattle.std.proofs.Math.ListN.{get_or-map}
 use Rattle.std.proofs.lemmas.List.FromFn.{get_or-map-range_with_len}
 use mathlib.Core.Path.{◌≡◌, refl, ap, sym, ◌∙◌}
-use mathlib.Core.Bool.{Bool}
-use Rattle.std.specs.List.{take_while, range_with_len}
+use Rattle.std.specs.List.{range_with_len}
 use mathlib.Core.List.{List, [], ◌∷◌}
 use Prim.Native.Nat.{ℕ, ◌≤◌, ◌<◌}
 use native.Mathlib.Omega.{arith}
-use native.Mathlib.Numerals.{one-add}
-use borrow.Author.Tests.{le-leb, lt-leb, lt-ltb, le-ltb}
-use lib.Dec.{ltb}
-use Rattle.std.proofs.lemmas.List.Sums.{prefix_len-le-length}
-use Rattle.std.proofs.lemmas.List.Folds.{length-prefix_len}
-use mathlib.Core.Logic.{⊎_elim}
-use Rattle.word.proofs.Bools.{below}
-use lib.ListN.{length, get_or, take, get_or-eq_default}
+use borrow.Author.Tests.{le-leb, lt-leb}
+use lib.ListN.{length, get_or, get_or-eq_default}
+use Rattle.ascii.specs.declared.Cursor.{Cursor}
+use Rattle.ascii.specs.Rooms.{HasRoom, Appended}
+use Rattle.ascii.proofs.Rooms.{in_turn, room_before, room_after, put_nothing}
 use Rattle.ascii.specs.Ascii.{bytes}
 use Rattle.ascii.specs.Numbers.{decimal, decimal_by, signed_decimal}
 use Rattle.isa.specs.Building.{built}
@@ -54,21 +50,42 @@ pub name_first : (o : ℕ) → o < 48 → name_of (sample_line o) ≡ name_at o
 name_first o h =
     sym (each_at (λ o. name_of (sample_line o)) o [] h) ∙ ap (λ (t : List (List ℕ)). get_or t o []) named ∙ each_at name_at o [] h
 
--- a byte of a name
-abbrev pub in_name : ℕ → Bool
-in_name byte = ltb 32 byte
+-- ---- a name, put byte by byte
 
-name_while : (line : List ℕ) → name_of line ≡ take_while in_name line
-unfolding name_of
-name_while [] = refl
-name_while (b ∷ line) = ⊎_elim
-    (λ h. rw (lt-leb b 32 h, lt-ltb 32 b h, one-add) (ap (λ l. b ∷ l) (name_while line)))
-    (λ h. rw (le-leb b 32 h, le-ltb 32 b h))
-    (below 32 b)
+-- from a byte of the line on, the name goes on behind it, or there is none
+module _ (line : List ℕ) (i : ℕ) where
+  ahead : i < length line → drop i line ≡ get_or line i 0 ∷ drop (i + 1) line
+  ahead h = rw (add-one i) (drop-cons line i 0 h)
 
-pub name_short : (line : List ℕ) → length (take_while in_name line) ≤ length line
-name_short line = rw (length-prefix_len in_name line) (prefix_len-le-length in_name line)
+  goes-on : i < length line → 32 < get_or line i 0 → name_of (drop i line) ≡ get_or line i 0 ∷ name_of (drop (i + 1) line)
+  unfolding name_of
+  goes-on h b = rw (ahead h, lt-leb (get_or line i 0) 32 b)
 
--- as many bytes as are in the name are the name
-pub name_taken : (line : List ℕ) → take (length (take_while in_name line)) line ≡ name_of line
-name_taken line = rw (length-prefix_len in_name line, ← name_while line)
+  pub stops-here : i < length line → get_or line i 0 ≤ 32 → name_of (drop i line) ≡ []
+  unfolding name_of
+  stops-here h b = rw (ahead h, le-leb (get_or line i 0) 32 b)
+
+  pub stops-at_end : length line ≤ i → name_of (drop i line) ≡ []
+  unfolding name_of
+  stops-at_end h = rw (drop_of_length-le line h)
+
+-- the name's bytes before i were put: the others have room, and complete it
+pub record Putting (line : List ℕ) (before : Cursor) (i : ℕ) (out : Cursor) : Type 0 where
+  pub fits : HasRoom out (name_of (drop i line))
+  pub others : (end : Cursor) → Appended out (name_of (drop i line)) end → Appended before (name_of line) end
+
+pub nothing-put : (line : List ℕ) (before : Cursor) → HasRoom before (name_of line) → Putting line before 0 before
+nothing-put line before h = record { fits = h; others = λ end a. a }
+
+module _ (line : List ℕ) (before : Cursor) (i : ℕ) (out : Cursor) (p : Putting line before i out) where
+  pub room-here : i < length line → 32 < get_or line i 0 → HasRoom out (get_or line i 0 ∷ [])
+  room-here h b = room_before out (get_or line i 0 ∷ []) (name_of (drop (i + 1) line)) (rw (goes-on line i h b) at p.fits)
+
+  pub one-put : {next : Cursor} → i < length line → 32 < get_or line i 0 → Appended out (get_or line i 0 ∷ []) next → Putting line before (i + 1) next
+  one-put {next} h b a = record {
+    fits = room_after (name_of (drop (i + 1) line)) a (rw (goes-on line i h b) at p.fits);
+    others = λ end more. p.others end (rw (goes-on line i h b) (in_turn a more));
+  }
+
+  pub all-put : name_of (drop i line) ≡ [] → Appended before (name_of line) out
+  all-put e = p.others out (rw e (put_nothing out))

@@ -1,8 +1,7 @@
 // The text of an instruction, written where a cursor stands.
 #![tactic(auto)]
 
-ghost use Rattle.std.specs.Prelude.{◌≡◌, ◌∷◌, ◌++◌, ◌<◌, nat_lt, length};
-ghost use Rattle.std.specs.List.{take_while};
+ghost use Rattle.std.specs.Prelude.{◌≡◌, ◌∷◌, ◌++◌, ◌<◌};
 ghost use Rattle.ascii.specs.Numbers.{signed_decimal};
 ghost use Rattle.ascii.specs.Rooms.{HasRoom, Appended};
 ghost use Rattle.text.specs.Names.{name_at};
@@ -85,21 +84,19 @@ pub fn sample_line(operation: u8) -> &'static [u8]
     LINES[operation as usize]
 }
 
-// How many bytes a line has before its first space or newline.
-fn name_length(line: &[u8]) -> usize
-    ensures { result ≡ length (take_while (λ byte. nat_lt 32 byte) line.now) }
-{
-    line.iter().take_while(|byte| **byte > b' ').count()
-}
-
-// An operation's name.
+// An operation's name: what its line has before the first space or newline. Byte by byte, since a copy of so
+// many bytes as are not known beforehand is a call of memmove, which the library for C would have to be given.
 fn put_name(out: &mut Cursor, operation: u8)
     requires { HasRoom out.old (name_at operation) }
     ensures { Appended out.old (name_at operation) out.new }
 {
     if operation < 48 {
-        let line = sample_line(operation);
-        out.put_all(&line[..name_length(line)]);
+        for &byte in sample_line(operation) {
+            if byte <= b' ' {
+                break;
+            }
+            out.put(byte);
+        }
     }
 }
 
