@@ -46,6 +46,10 @@ found_text prefix (Err r) = []
 abbrev pub found_entry : Result Inst Refusal → List ℕ → List ℕ → Outcome (Result ℕ Refusal) (List ℕ)
 found_entry found prefix room = text_entry (found_checked found) (found_text prefix found) room
 
+-- the same once the room was looked at
+abbrev pub found_filled : Result Inst Refusal → List ℕ → List ℕ → Outcome (Result ℕ Refusal) (List ℕ)
+found_filled found prefix room = decided (found_checked found) (text_filled (found_text prefix found) room) Err room
+
 -- the text of 32 bits
 abbrev pub word_entry : ℕ → List ℕ → Outcome (Result ℕ Refusal) (List ℕ)
 word_entry bits room = text_entry (legal_checked (decoded bits)) (meant_text text_of (decoded bits)) room

@@ -5,7 +5,7 @@
 ghost use Rattle.std.specs.Prelude.{◌≡◌, ◌++◌, ◌≤◌, IfOk, length};
 ghost use Rattle.answers.specs.Outcomes.{outcome};
 ghost use Rattle.text.specs.Text.{text_of};
-ghost use Rattle.disassembler.specs.Entries.{found_entry, word_entry, half_entry, inst_entry};
+ghost use Rattle.disassembler.specs.Entries.{found_filled, word_entry, half_entry, inst_entry};
 
 use answers::Refusal;
 use ascii::Cursor;
@@ -18,18 +18,16 @@ use text::{SHORT, put_text};
 // No text is longer, with `c:` in front or without.
 pub const ROOM: usize = 24;
 
-// The text of what was found, with a prefix; a small room is refused first.
+// The text of what was found, with a prefix. A small room was refused before it was looked for.
 fn write_text(
     found: Result<Inst, Refusal>,
     prefix: &[u8],
     room: &mut [u8],
 ) -> Result<usize, Refusal>
-    requires { IfOk found (λ i. length (prefix.now ++ text_of i) ≤ 21) }
-    ensures { outcome result room.new ≡ found_entry found prefix.now room.old }
+    requires fits { IfOk found (λ i. length (prefix.now ++ text_of i) ≤ 19) }
+    requires wide { 20 ≤ length room.old }
+    ensures { outcome result room.new ≡ found_filled found prefix.now room.old }
 {
-    if room.len() < ROOM {
-        return Err(Refusal::Room);
-    }
     let i = found?;
     let mut out = Cursor { room, at: 0 };
     out.put_all(prefix);
@@ -41,6 +39,9 @@ fn write_text(
 pub fn text_of_word(bits: u32, room: &mut [u8]) -> Result<usize, Refusal>
     ensures { outcome result room.new ≡ word_entry bits room.old }
 {
+    if room.len() < ROOM {
+        return Err(Refusal::Room);
+    }
     write_text(decode(bits).ok_or(Refusal::NoInstruction), b"", room)
 }
 
@@ -49,6 +50,9 @@ pub fn text_of_word(bits: u32, room: &mut [u8]) -> Result<usize, Refusal>
 pub fn text_of_half(bits: u16, room: &mut [u8]) -> Result<usize, Refusal>
     ensures { outcome result room.new ≡ half_entry bits room.old }
 {
+    if room.len() < ROOM {
+        return Err(Refusal::Room);
+    }
     write_text(expand(bits).ok_or(Refusal::NoInstruction), SHORT, room)
 }
 
@@ -57,5 +61,8 @@ pub fn text_of_half(bits: u16, room: &mut [u8]) -> Result<usize, Refusal>
 pub fn text_of(i: Inst, room: &mut [u8]) -> Result<usize, Refusal>
     ensures { outcome result room.new ≡ inst_entry i room.old }
 {
+    if room.len() < ROOM {
+        return Err(Refusal::Room);
+    }
     write_text(in_range(i).then_some(i).ok_or(Refusal::Field), b"", room)
 }
