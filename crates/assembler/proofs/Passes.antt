@@ -1,6 +1,6 @@
 -- One line of a pass, for both passes.
 use mathlib.Core.Path.{◌≡◌, refl, sym, ap, ◌∙◌, subst}
-use mathlib.Core.List.{List, [], ◌++◌}
+use mathlib.Core.List.{List, [], ◌∷◌, ◌++◌}
 use Prim.Native.Nat.{ℕ, suc, ◌+◌, ◌-◌, ◌≤◌, ◌<◌}
 use native.Mathlib.Omega.{arith}
 use borrow.Author.Tests.{le-leb, lt-leb}
@@ -49,6 +49,12 @@ sized Four = omega arith
 
 ended : {text : List ℕ} → text ≡ [] → assembled text ≡ output []
 ended e = ap assembled e ∙ steps.nothing
+
+-- an empty text gives nothing, in any room
+pub nothing-given : (text room : List ℕ) → length text ≡ 0 → outcome (Ok 0) room ≡ assemble_entry text room
+unfolding decided
+nothing-given [] room h = rw (ended {text = []} refl, le-leb 0 (length room) (omega arith))
+nothing-given (b ∷ text) room h = absurd (omega arith)
 
 -- ---- the first pass
 

@@ -96,6 +96,10 @@ fn write_lines(text: &[u8], room: &mut [u8]) -> usize
 pub fn assemble(text: &[u8], room: &mut [u8]) -> Result<usize, LineFault>
     ensures { outcome result room.new ≡ assemble_entry text.now room.old }
 {
+    // of no lines there is nothing, and a walk over them would cost more than to say so
+    if text.is_empty() {
+        return Ok(0);
+    }
     let length = measure(text)?;
     if length > room.len() {
         return Err(LineFault {

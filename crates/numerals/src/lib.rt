@@ -50,13 +50,14 @@ pub struct Number {
     pub value: Option<u32>,
 }
 
-// A value with one digit more. From 32 bits on it stays.
+// A value with one digit more. From 32 bits on it stays. A digit's low four bits are its value: with the
+// difference to 0, which the test for a digit makes too, each turn waits for a product that is not taken.
 fn with_digit(value: u64, digit: u8) -> u64
     requires { (48 ≤ digit) × (digit ≤ 57) }
     ensures { result ≡ grown value digit }
 {
     if value < 0x1_0000_0000 {
-        return value * 10 + (digit - b'0') as u64;
+        return value * 10 + (digit % 16) as u64;
     }
     value
 }
